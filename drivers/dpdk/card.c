@@ -10,6 +10,7 @@
 #include <unistd.h>
 
 #include "bench.h"
+#include "explain.h"
 #include "run.h"
 #include "seam.h"
 #include "turns.h"
@@ -42,13 +43,16 @@ uint32_t seam_read(const volatile void *address)
     return word;
 }
 
-void seam_write(uint32_t word, volatile void *address)
+void seam_write(uint32_t word, volatile void *address, const char *file, unsigned int line)
 {
     unsigned int function;
     uint32_t offset;
     window_find(address, &function, &offset);
     turns_take();
+    writing_file = file;
+    writing_line = line;
     bench_write(function, offset, word);
+    writing_file = NULL;
     turns_give_back();
 }
 

@@ -9,6 +9,8 @@
 #include <unistd.h>
 
 #include "bench.h"
+#include "crash.h"
+#include "explain.h"
 #include "forms.h"
 #include "run.h"
 #include "seam.h"
@@ -88,6 +90,8 @@ bool dpdk_start(const struct dpdk_options *options)
     size_t lent = 0;
     struct bus_options bus = options->bus;
     memcpy(bus.mac, card_mac, sizeof card_mac);
+    bus.calls.fault = explain_fault;
+    crash_begin();
     if (start_layer(options) < 0) {
         problem("DPDK's start-up: %s", rte_strerror(rte_errno));
         return false;

@@ -1,9 +1,10 @@
 /* Runs DPDK's ixgbe driver on the bench: probe, start, frames each way over four queues with RSS, counters, filters,
    restart of a queue, stop, start, frames, close. drivers/dpdk/run compiles and calls it.
 
-     exchange [--scalar | --segments] [--frames N] [--device ID] [--without SWSM | ANLP1] [--with EICS | EERD]
-              [--strays FILE] [--loud] [--turn in | out]
-         the run, with N frames each way in each pass (1,000 by default); --turn: the shim changes a byte of one frame
+     exchange [--scalar | --segments] [--frames N] [--slots N] [--wraps N] [--device ID] [--without SWSM | ANLP1]
+              [--with EICS | EERD] [--strays FILE] [--loud] [--turn in | out]
+         the run, with N frames each way in each pass (1,000 by default) and N descriptors in each ring (128);
+         --wraps: a pass fails if a ring wraps fewer than N times; --turn: the shim changes a byte of one frame
      exchange --speed
          the measurement
 
@@ -15,6 +16,7 @@
 #include <string.h>
 
 #include "card.h"
+#include "explain.h"
 #include "frames.h"
 #include "run.h"
 #include "verdict.h"
@@ -25,6 +27,8 @@
 #define PLAIN_BUFFER 2048
 #define FIFO 64
 #define FRAMES_MOST 10000000
+#define SLOTS_LEAST 64 /* the driver's fast functions need 32 more than their thresholds */
+#define SLOTS_MOST 4096
 
 enum phase { IN_PROBE, IN_START, IN_TRAFFIC, IN_COUNTERS, IN_FILTERS, IN_RESTART, IN_STOP, IN_CLOSE };
 
@@ -39,6 +43,7 @@ struct words {
 
 bool in_segments;
 unsigned int frames_of_pass = 1000;
+unsigned int ring_slots = SLOTS, least_wraps;
 
 /* ---- the phases of the run ---- */
 
@@ -68,7 +73,7 @@ static bool configure(uint16_t port)
         configuration.rxmode.offloads |= RTE_ETH_RX_OFFLOAD_SCATTER;
         configuration.txmode.offloads |= RTE_ETH_TX_OFFLOAD_MULTI_SEGS;
     }
-    int status = port_configure(port, &configuration, QUEUES, SLOTS, &what);
+    int status = port_configure(port, &configuration, QUEUES, ring_slots, &what);
     if (failed(what, status))
         return false;
     for (uint16_t queue = 0; queue < QUEUES; queue++)
@@ -86,7 +91,7 @@ static bool start(uint16_t port)
     struct rte_eth_link link;
     if (failed("rte_eth_link_get_nowait", rte_eth_link_get_nowait(port, &link)))
         return false;
-    printf("  %u receive and %u transmit queues of %u descriptors; link %s, %u Mb/s\n", QUEUES, QUEUES, SLOTS,
+    printf("  %u receive and %u transmit queues of %u descriptors; link %s, %u Mb/s\n", QUEUES, QUEUES, ring_slots,
            link.link_status ? "up" : "down", link.link_speed);
     printf("  it receives with %s, sends with %s\n", receives_by(port), sends_by(port));
     if (!link.link_status)
@@ -104,6 +109,7 @@ static void close_card(void)
 {
     begin(IN_CLOSE, "close");
     failed("the driver's remove", card_remove(BUS_PHYSICAL));
+    expect_freed_once();
     unsigned int lost = rte_mempool_in_use_count(pool);
     if (lost)
         problem("%u packets aren't back in their pool", lost);
@@ -115,6 +121,7 @@ static void pass(uint16_t port)
 {
     begin(IN_TRAFFIC, "traffic");
     traffic(port);
+    expect_freed_once();
     begin(IN_COUNTERS, "counters");
     counters(port);
 }
@@ -158,6 +165,10 @@ static bool read_pair(const char *word, const char *next, struct words *it)
     unsigned int answer = bus_answer_named(next), *answers = &it->options.bus.answers;
     if (strcmp(word, "--frames") == 0)
         return read_number(next, 1, FRAMES_MOST, &frames_of_pass);
+    if (strcmp(word, "--slots") == 0)
+        return read_number(next, SLOTS_LEAST, SLOTS_MOST, &ring_slots) && ring_slots % 8 == 0;
+    if (strcmp(word, "--wraps") == 0)
+        return read_number(next, 1, FRAMES_MOST, &least_wraps);
     if (strcmp(word, "--device") == 0)
         return read_device(next, &it->device);
     if (strcmp(word, "--with") == 0)
@@ -196,8 +207,9 @@ int main(int count, char **arguments)
 {
     struct words words;
     if (!read_words(count, arguments, &words)) {
-        fprintf(stderr, "exchange [--scalar | --segments] [--frames N] [--device ID] [--without SWSM | ANLP1] "
-                        "[--with EICS | EERD] [--strays FILE] [--loud] [--turn in | out]\nexchange --speed\n");
+        fprintf(stderr, "exchange [--scalar | --segments] [--frames N] [--slots N] [--wraps N] [--device ID]\n"
+                        "    [--without SWSM | ANLP1] [--with EICS | EERD] [--strays FILE] [--loud] [--turn in | out]\n"
+                        "exchange --speed\n");
         return 3;
     }
     if (dpdk_start(&words.options)) {

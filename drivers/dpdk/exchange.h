@@ -10,8 +10,9 @@
 #define QUEUES 4
 #define SMALL_BUFFER 1024 /* bytes of a receive buffer when frames are segmented */
 
-extern unsigned int frames_of_pass; /* each way */
-extern bool in_segments;            /* frames span several buffers, both ways */
+extern unsigned int frames_of_pass;          /* each way */
+extern unsigned int ring_slots, least_wraps; /* descriptors of a ring; how often each must wrap in a pass */
+extern bool in_segments;                     /* frames span several buffers, both ways */
 
 /* Parts of the run. They check frames in and out, the driver's counters, and which frames the filters accept. */
 void traffic(uint16_t port);

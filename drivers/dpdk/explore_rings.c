@@ -2,6 +2,7 @@
    are sent one at a time, more than a ring has slots. Each frame must arrive in order with its bytes unchanged. */
 #include <rte_ring.h>
 #include <rte_vect.h>
+#include <stdio.h>
 #include <string.h>
 
 #include "explore.h"
@@ -169,6 +170,21 @@ static const char *went_out(void)
     return nic_next_out(nicx_device()) ? "a frame was transmitted twice" : NULL;
 }
 
+/* Checks that each frame that arrived was received. Otherwise it is waiting in the device, and the library says why. */
+static const char *came_in(void)
+{
+    static char words[240], why[400];
+    if (done >= nicx_came())
+        return NULL;
+    nic_why(nicx_device(), why, sizeof why);
+    for (char *at = why; *at; at++)
+        if (*at == '\n')
+            *at = at[1] ? ';' : 0;
+    snprintf(words, sizeof words, "frame %u was never received: %.200s", done,
+             *why ? why : "it isn't in the device; the driver never returned it");
+    return words;
+}
+
 /* ---- bring-up ---- */
 
 static const char *set_up_receive(void)
@@ -299,14 +315,14 @@ static void begin(void)
         nicx_task("transmit", transmit, NULL);
         return;
     }
-    nicx_task("receive", receive, NULL);
+    nicx_service("receive", receive, NULL); /* it waits for frames; came_in reports one that doesn't come */
     for (unsigned int k = 0; k < way->frames; k++)
         nicx_frame(bytes, fill_for_driver(bytes, k));
 }
 
 static const char *end(void)
 {
-    return way->sends ? went_out() : NULL;
+    return way->sends ? went_out() : came_in();
 }
 
 const nicx_scenario *rings_scenario(const char *name)

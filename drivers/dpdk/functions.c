@@ -17,6 +17,7 @@
 #include <string.h>
 
 #include "card.h"
+#include "explain.h"
 #include "handlers.h"
 #include "mailbox.h"
 #include "passes.h"
@@ -86,6 +87,7 @@ static bool end_all(void)
     for (unsigned int which = setting.functions; which > 0; which--)
         ok &= port_stop(which) && port_remove(which);
     ok &= port_stop(HOST) && port_remove(HOST);
+    expect_freed_once();
     unsigned int lost = rte_mempool_in_use_count(pool);
     if (lost)
         problem("%u packets aren't back in their pool", lost);

@@ -54,8 +54,9 @@ uint32_t seam_read(const volatile void *address)
     return function ? nicx_vf_read32((uint8_t)(function - 1), offset) : nicx_read32(offset);
 }
 
-void seam_write(uint32_t word, volatile void *address)
+void seam_write(uint32_t word, volatile void *address, const char *file, unsigned int line)
 {
+    (void)file, (void)line;
     unsigned int function;
     uint32_t offset;
     window_find(address, &function, &offset);

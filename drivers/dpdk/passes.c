@@ -4,6 +4,7 @@
 #include <stdio.h>
 #include <string.h>
 
+#include "explain.h"
 #include "frames.h"
 #include "handlers.h"
 #include "hashes.h"
@@ -63,8 +64,11 @@ static void arrive(unsigned int which, unsigned int frame_number)
     uint32_t number = number_of(which, frame_number);
     frame_make(&frame, number, FRAME_MAX, ports[which].mac.addr_bytes, peer_mac);
     line_up_put(&in[which][rss_queue(&rss, &frame, port_queues(which))], number);
-    if (!bus_arrive(run_bus, frame.bytes, frame.length))
-        problem("%s: the device didn't accept frame %u", port_name(which), frame_number);
+    if (!bus_arrive(run_bus, frame.bytes, frame.length)) {
+        char who[16];
+        snprintf(who, sizeof who, "%s: ", port_name(which));
+        refused(who, frame_number);
+    }
 }
 
 static void compare_in(const struct rte_mbuf *packet, uint16_t queue, void *port_number)
@@ -216,6 +220,7 @@ void pass(unsigned int first, unsigned int last)
     fflush(stdout);
     clear(first, last);
     frames_in(first, last);
+    refused_end();
     bus_send_to(run_bus, compare_out, NULL);
     frames_out(first, last);
     bus_send_to(run_bus, NULL, NULL);
@@ -225,6 +230,7 @@ void pass(unsigned int first, unsigned int last)
     }
     if (!bus_is_settled(run_bus, BUS_QUEUES))
         problem("the device isn't at rest");
+    expect_freed_once();
 }
 
 /* The physical function counts all frames of the device, including its virtual functions' frames; each virtual function

@@ -13,10 +13,10 @@
 /* every register access in the driver's osdep header */
 #define rte_read32(address) seam_read(address)
 #define rte_read32_relaxed(address) seam_read(address)
-#define rte_write32(word, address) seam_write(word, address)
-#define rte_write32_relaxed(word, address) seam_write(word, address)
-#define rte_write32_wc(word, address) seam_write(word, address)
-#define rte_write32_wc_relaxed(word, address) seam_write(word, address)
+#define rte_write32(word, address) seam_write(word, address, __FILE__, __LINE__)
+#define rte_write32_relaxed(word, address) seam_write(word, address, __FILE__, __LINE__)
+#define rte_write32_wc(word, address) seam_write(word, address, __FILE__, __LINE__)
+#define rte_write32_wc_relaxed(word, address) seam_write(word, address, __FILE__, __LINE__)
 
 /* waits, which take no time because the bench runs no step by itself */
 #define rte_delay_us_sleep(microseconds) seam_wait(microseconds)

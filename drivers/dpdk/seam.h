@@ -9,7 +9,8 @@ struct rte_pci_driver;
 struct rte_intr_handle;
 
 uint32_t seam_read(const volatile void *address);
-void seam_write(uint32_t word, volatile void *address);
+/* `file` and `line` are the driver's. They are arguments because a store would be a point for the explorer. */
+void seam_write(uint32_t word, volatile void *address, const char *file, unsigned int line);
 void seam_wait(unsigned int microseconds);
 void seam_register(struct rte_pci_driver *driver);
 int seam_handle(const struct rte_intr_handle *handle, void (*handler)(void *), void *argument);

@@ -3,11 +3,15 @@
 # source common.sh first.
 #
 # find_source sets SOURCE (a complete source, for headers that aren't installed), DRIVER (the driver's folder), PLACE
-# (its name in output), VERSION (DPDK's, as text) and, for a tree's libraries, PKG_CONFIG_PATH.
+# (its name in output) and VERSION (DPDK's, as text). build_libraries then builds a tree's libraries, and sets
+# PKG_CONFIG_PATH.
 
 WHERE=  # what --source names
 BISECT= # not empty: the statuses are for `git bisect run`
 TREE=   # the tree whose libraries are used; empty: libdpdk-dev's libraries
+MAY_INSTALL= # not empty: libdpdk-dev is installed if it is missing
+OLDEST=22.11 # the oldest release on which the runs were tried
+TICK=10      # seconds between two lines about the progress of compiling
 LAYOUTS="drivers/net/intel/ixgbe drivers/net/ixgbe"
 NEEDED=bus/pci,bus/vdev,mempool/ring,net/null # the driver itself is compiled by the Makefile
 
@@ -16,6 +20,8 @@ is_source() { [[ ${1-} =~ ^debian:[a-z][a-z-]*$ ]] || { [ -n "${1-}" ] && [[ $1 
 
 # uncompiled WORDS..: ends the script because the source doesn't compile: status 125 with --bisect, else 2.
 uncompiled() {
+    # shellcheck disable=SC2034 # junit.sh uses it
+    SAID=$*
     say "$@"
     [ -z "$BISECT" ] || exit 125
     exit 2
@@ -43,12 +49,51 @@ folder_for() {
     out_folder "$1${WHERE:+-$(printf %s "$(readlink -f "$DRIVER") $TREE" | sha256sum | cut -c 1-8)}"
 }
 
+# Ends the script if libdpdk-dev is missing, unless --install allows the script to install it.
+need_libraries() {
+    dpkg -s libdpdk-dev >/dev/null 2>&1 && return
+    [ -n "$MAY_INSTALL" ] || die "libdpdk-dev isn't installed: apt-get install libdpdk-dev, or pass --install, as root"
+    install_package libdpdk-dev
+}
+
+# fetch_source VERSION: fetches DPDK's source package and prints its folder.
+fetch_source() {
+    local status=0
+    (get_source dpdk "$1") || status=$?
+    [ $status = 0 ] && return
+    ! grep -q ' 404 ' "$WORK/dpdk-$1/log" 2>/dev/null \
+        || say "the mirror lists dpdk $1 but doesn't have its files: download the release, and pass --source FOLDER"
+    return $status
+}
+
 # Uses Debian's libraries, and the source that they were built from.
 take_installed() {
     need apt-get:apt dpkg-source:dpkg-dev
-    install_package libdpdk-dev
+    need_libraries
     VERSION=$(dpkg-query -W -f '${source:Version}' libdpdk-dev)
-    SOURCE=$(get_source dpdk "$VERSION")
+    SOURCE=$(fetch_source "$VERSION")
+}
+
+# check_version VERSION: ends the script if this release of DPDK is too old.
+check_version() {
+    [ "$(printf '%s\n' "$1" "$OLDEST" | sort -V | head -n 1)" = "$OLDEST" ] \
+        || uncompiled "DPDK $1 is too old: these runs support $OLDEST and later releases"
+}
+
+# with_progress COMMAND.. -- COMMAND..: executes the second command. Until it ends, prints the first command's output
+# every ten seconds.
+with_progress() {
+    local shows=() ticker status=0
+    while [ "$1" != -- ]; do
+        shows+=("$1")
+        shift
+    done
+    while sleep "$TICK" >/dev/null 2>&1 && kill -0 $$ 2>/dev/null; do say "$("${shows[@]}")"; done &
+    ticker=$!
+    "${@:2}" || status=$?
+    kill $ticker 2>/dev/null || true
+    wait $ticker 2>/dev/null || true
+    return $status
 }
 
 # tree_options TREE: prints meson's options, as far as this version supports them. The target is a generic x86-64, so
@@ -70,33 +115,65 @@ build_tree() {
     python3 -c 'import elftools' 2>/dev/null || die "not installed: elftools; apt-get install python3-pyelftools"
     mapfile -t options < <(tree_options "$TREE")
     if [ "$(cat "$at/options" 2>/dev/null)" != "${options[*]}" ] || [ ! -f "$at/build/build.ninja" ]; then
-        say "configuring $TREE"
+        say "configuring $TREE; the log is $at/log"
         rm -rf "$at"
         mkdir -p "$at"
-        meson setup "$at/build" "$TREE" --prefix="$at/installed" --libdir=lib -Ddefault_library=static \
-            "${options[@]}" >"$at/log" 2>&1 || { grep -a ERROR "$at/log" >&2; uncompiled "meson fails: see $at/log"; }
+        with_progress last_line "$at/log" -- configure_tree "$at" "${options[@]}" || {
+            grep -a ERROR "$at/log" >&2 || true
+            uncompiled "meson fails: $(first_error "$at/log"); see $at/log"
+        }
         echo "${options[*]}" >"$at/options"
     fi
     [ ! -f "$at/done" ] || [ "$(ninja -C "$at/build" -n | tail -n 1)" != "ninja: no work to do." ] || return 0
     rm -f "$at/done"
-    say "building the libraries of $TREE"
-    ninja -C "$at/build" -j "${JOBS:-$(nproc)}" >"$at/log" 2>&1 || {
-        grep -aE -A 8 'error:|^FAILED' "$at/log" | head -n 40 >&2
-        uncompiled "the libraries of $TREE don't compile: see $at/log"
+    say "building the libraries of $TREE, which takes minutes; the log is $at/log"
+    with_progress ninja_steps "$at/log" -- make_tree "$at" || {
+        grep -aE -A 8 'error:|^FAILED' "$at/log" | head -n 40 >&2 || true
+        uncompiled "the libraries of $TREE don't compile: $(first_error "$at/log"); see $at/log"
     }
     meson install -C "$at/build" --no-rebuild --quiet >"$at/log" 2>&1 || die "meson install fails: see $at/log"
     touch "$at/done"
 }
 
+configure_tree() {
+    meson setup "$1/build" "$TREE" --prefix="$1/installed" --libdir=lib -Ddefault_library=static "${@:2}" \
+        >"$1/log" 2>&1
+}
+
+make_tree() { ninja -C "$1/build" -j "${JOBS:-$(nproc)}" >"$1/log" 2>&1; }
+
+# last_line LOG: prints the last line of a log.
+last_line() { tail -n 1 "$1" 2>/dev/null; }
+
+# ninja_steps LOG: prints how many of ninja's steps are done.
+ninja_steps() {
+    local steps
+    steps=$(tail -c 2000 "$1" 2>/dev/null | grep -ao '^\[[0-9]*/[0-9]*\]' | tail -n 1 | tr -d '[]')
+    echo "${steps:-0} steps are done"
+}
+
+# first_error LOG: prints the first error of a compiler, the linker or meson in a log.
+first_error() {
+    { grep -aE 'error:|ERROR:|cannot find -l|undefined reference|multiple definition' "$1" || tail -n 1 "$1"; } \
+        | head -n 1 | sed "s|$DRIVER/||"
+}
+
 # take_tree TREE: uses a complete tree, with its own libraries.
 take_tree() {
-    local at layout
+    local layout
     TREE=$(readlink -f "$1")
     SOURCE=$TREE
     layout=$(driver_in "$TREE")
     DRIVER=$TREE/$layout
     PLACE=$TREE/$layout
     VERSION=$(cat "$TREE/VERSION")
+    check_version "$VERSION"
+}
+
+# Builds the libraries of the tree, if one is used.
+build_libraries() {
+    local at
+    [ -n "$TREE" ] || return 0
     at=$WORK/dpdk-tree-$(printf %s "$TREE" | sha256sum | cut -c 1-8)
     build_tree "$at"
     export PKG_CONFIG_PATH=$at/installed/lib/pkgconfig
@@ -108,7 +185,8 @@ take_suite() {
     need apt-get:apt dpkg-source:dpkg-dev
     version=$(version_in_suite dpdk)
     [ -n "$version" ] || die "Debian's $SUITE has no dpdk"
-    source=$(get_source dpdk "$version")
+    check_version "$version"
+    source=$(fetch_source "$version")
     take_tree "$source"
     VERSION=$version
     PLACE=$(driver_in "$source")
@@ -164,12 +242,57 @@ compile() {
     local words=("SOURCE=$SOURCE" "DRIVER=$DRIVER" "INCLUDE=$INCLUDE" "LIBRARY=$LIBRARY" "OUT=$2" "TREE=$TREE")
     mkdir -p "$2"
     forget_changed "$2"
-    make -s -j "${JOBS:-$(nproc)}" -f "$1" "${words[@]}" EXPLORER="${LIBRARY%.a}_explore.a" "${@:3}" && return
-    [ -n "$WHERE" ] || die "the driver and its runs don't compile: see the compiler's messages above"
-    local tree=
+    words=(make -s -j "${JOBS:-$(nproc)}" -f "$1" "${words[@]}" EXPLORER="${LIBRARY%.a}_explore.a")
+    tell_work "$2" "${words[@]}" "${@:3}"
+    made "$2" "${words[@]}" theirs || not_compiled "$2/messages"
+    made "$2" "${words[@]}" "${@:3}" || not_linked "$2/messages"
+}
+
+# tell_work OUT MAKE..: prints how many files will be compiled, if there are any.
+tell_work() {
+    # (make -n would count every file of the driver again, because it assumes that the file of flags changes)
+    "${@:2}" -n -o "$1/flags" 2>/dev/null | sed -n 's/.* -c -o \([^ ]*\).*/\1/p' >"$1/objects" || true
+    TO_COMPILE=$(wc -l <"$1/objects")
+    touch "$1/begun"
+    [ "$TO_COMPILE" = 0 ] || say "compiling $TO_COMPILE files, in $1"
+}
+
+# compiled OUT: prints how many files have been compiled, and the first one that hasn't.
+compiled() {
+    local count object next=
+    count=$(find "$1" -name '*.o' -newer "$1/begun" | wc -l)
+    while read -r object; do
+        [ "$object" -nt "$1/begun" ] || { next=$(basename "$object" .o).c; break; }
+    done <"$1/objects"
+    echo "compiled $((count < TO_COMPILE ? count : TO_COMPILE)) of $TO_COMPILE files${next:+; next $next}"
+}
+
+# made OUT MAKE..: executes make, and also writes its error messages to OUT/messages.
+made() { with_progress compiled "$1" -- make_it "$@"; }
+
+make_it() { { "${@:2}" 2>&1 >&3 | tee "$1/messages" >&2; } 3>&1; }
+
+# not_compiled MESSAGES: ends the script because the driver's own files don't compile.
+not_compiled() {
+    local error tree=
+    error=$(first_error "$1")
+    [ -n "$WHERE" ] || die "the driver doesn't compile: $error"
     [ -n "$TREE" ] || tree=$(tree_of "$DRIVER")
-    uncompiled "$PLACE doesn't compile against DPDK $VERSION: see the compiler's messages above" \
+    uncompiled "$PLACE doesn't compile against DPDK $VERSION: $error" \
         ${tree:+"(--source $tree uses that tree's own libraries)"}
+}
+
+# not_linked MESSAGES: ends the script because the driver compiles, but its runs can't be made from it. A library that
+# is missing is never the driver's fault.
+not_linked() {
+    local error library
+    error=$(first_error "$1")
+    library=$(sed -n 's/.*cannot find -l\([A-Za-z0-9_.+-]*\).*/\1/p' "$1" | head -n 1)
+    [ -z "$library" ] || die "the linker doesn't find lib$library.so: install the package that contains it"
+    [ -n "$WHERE" ] || die "the runs don't compile or link: $error"
+    ! grep -qE 'undefined reference|multiple definition' "$1" \
+        || uncompiled "$PLACE compiles, but its runs don't link against DPDK $VERSION: $error"
+    uncompiled "$PLACE compiles, but the bench's own files don't compile with its headers: $error"
 }
 
 # Compares the driver's files with Debian's source; a user's own tree is compared with its release.

@@ -107,6 +107,7 @@ int measure(uint16_t card, uint16_t null)
     printf("60-byte frames in and out, %u queues, bursts of %u; median of %u rounds (minimum to maximum)\n", QUEUES,
            BURST, ROUNDS);
     for (unsigned int round = 0; round < ROUNDS; round++) {
+        fprintf(stderr, "round %u of %u, about %.0f s\n", round + 1, ROUNDS, 2.0 * SECONDS);
         bench[round] = round_of(card, true);
         nothing[round] = round_of(null, false);
     }

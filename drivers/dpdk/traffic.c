@@ -6,6 +6,7 @@
 #include <stdio.h>
 #include <string.h>
 
+#include "explain.h"
 #include "frames.h"
 #include "hashes.h"
 #include "run.h"
@@ -23,7 +24,7 @@ static void clear(struct line_up *lists)
 {
     for (unsigned int queue = 0; queue < QUEUES; queue++) {
         line_up_end(&lists[queue]);
-        if (!line_up_begin(&lists[queue], frames_of_pass + SLOTS))
+        if (!line_up_begin(&lists[queue], frames_of_pass + ring_slots))
             rte_exit(1, "out of memory\n");
     }
 }
@@ -60,7 +61,7 @@ static void arrive(unsigned int number)
     frame_make(&frame, number, FRAME_MAX, card_mac, peer_mac);
     line_up_put(&in[queue_of(&frame)], number);
     if (!bus_arrive(run_bus, frame.bytes, frame.length))
-        problem("the device didn't accept frame %u", number);
+        refused("", number);
 }
 
 static void compare_hash(const struct rte_mbuf *packet, const struct frame *frame, uint16_t queue)
@@ -112,6 +113,7 @@ static void frames_in(uint16_t port)
         for (uint16_t queue = 0; queue < QUEUES; queue++)
             take(port, queue);
     }
+    refused_end();
     expect_none_left(in, "in");
 }
 
@@ -137,6 +139,7 @@ static struct rte_mbuf *packet_of(unsigned int number)
     unsigned int count = in_segments ? SEGMENTS : 1, done = 0;
     if (rte_pktmbuf_alloc_bulk(pool, parts, count) != 0)
         return NULL;
+    expect_different(parts, count);
     frame_make(&frame, number, FRAME_MAX, peer_mac, card_mac);
     for (unsigned int i = 0; i < count; i++) {
         uint16_t length = (uint16_t)((frame.length - done) / (count - i));
@@ -191,8 +194,25 @@ static void tell(const char *way, const uint64_t *by_queue)
     printf("\n");
 }
 
+/* Prints how often the ring that wrapped least did so, and checks that. A ring that never wraps hides a driver that
+   never returns a slot to the device. */
+static void tell_wraps(const uint64_t *received_before, const uint64_t *sent_before)
+{
+    uint64_t least = UINT64_MAX;
+    for (unsigned int queue = 0; queue < QUEUES; queue++)
+        least = RTE_MIN(least, RTE_MIN(received[queue] - received_before[queue], sent[queue] - sent_before[queue]));
+    least /= ring_slots;
+    printf("  each ring wrapped at least %" PRIu64 " times\n", least);
+    if (least < least_wraps)
+        problem("a ring of %u descriptors wrapped only %" PRIu64 " times; %u were requested", ring_slots, least,
+                least_wraps);
+}
+
 void traffic(uint16_t port)
 {
+    uint64_t received_before[QUEUES], sent_before[QUEUES];
+    memcpy(received_before, received, sizeof received);
+    memcpy(sent_before, sent, sizeof sent);
     bus_send_to(run_bus, compare_sent, NULL);
     clear(in);
     clear(out);
@@ -203,6 +223,7 @@ void traffic(uint16_t port)
     alike = 0;
     frames_out(port);
     tell("out", sent);
+    tell_wraps(received_before, sent_before);
     if (!bus_is_settled(run_bus, QUEUES))
         problem("the device isn't at rest");
 }
@@ -304,6 +325,7 @@ void restart_queues(uint16_t port)
     clear(out);
     restart_transmit(port);
     restart_receive(port);
+    refused_end();
     rte_eth_stats_reset(port);
     memset(received, 0, sizeof received);
     memset(sent, 0, sizeof sent);

@@ -7,9 +7,13 @@ enum {
     VENDOR = 0x8086,
     COMMAND = 0x04,
     BAR0 = 0x10,
+    CAPABILITIES = 0x34,
     LINE = 0x3C,
     COMMANDS = 0x0006, /* memory space and bus master */
     NO_LINE = 0x0400,
+    MSI = 0x05,
+    MSI_ON = 0x00010000,   /* in the capability's first word, with MSI's number and the next capability's place */
+    MSI_WIDE = 0x00800000, /* its address has 64 bits */
     SLOTS = 64,
     QUEUE_CAUSE = 0, /* for RTxQ: both sides of queue 0 raise this cause */
     MOST_WAITS = 100000
@@ -31,9 +35,10 @@ static uint8_t received[SLOTS][FRAME_ROOM], sent[SLOTS][FRAME_ROOM];
 
 static struct {
     volatile uint8_t *window;
-    uint8_t line, address[6];
-    uint16_t next;         /* the receive slot for the next frame */
-    uint16_t free, oldest; /* the transmit slot to fill, and the oldest in flight */
+    struct pci_function function;
+    uint8_t line, address[6]; /* line: MESSAGE with MSI */
+    uint16_t next;            /* the receive slot for the next frame */
+    uint16_t free, oldest;    /* the transmit slot to fill, and the oldest in flight */
     uint32_t causes;
 } card;
 
@@ -83,7 +88,8 @@ static bool find(void)
     card.line = (uint8_t)pci_read(it, LINE);
     uint32_t command = pci_read(it, COMMAND) & 0xFFFF;
     pci_write(it, COMMAND, (command | COMMANDS) & ~(uint32_t)NO_LINE);
-    return card.line < 16;
+    card.function = it;
+    return true;
 }
 
 static bool reset(void)
@@ -133,7 +139,7 @@ static bool start_receiving(void)
         give(slot);
     write(NIC_FCTRL, NIC_FCTRL_BAM);
     write(NIC_HLREG0, read(NIC_HLREG0) | NIC_HLREG0_RXCRCSTRP | NIC_HLREG0_TXCRCEN | NIC_HLREG0_TXPADEN);
-    write(NIC_RDRXCTL, read(NIC_RDRXCTL) | NIC_RDRXCTL_CRCSTRIP);
+    write(NIC_RDRXCTL, read(NIC_RDRXCTL) | NIC_RDRXCTL_CRCSTRIP | NIC_RDRXCTL_RSCACKC | NIC_RDRXCTL_FCOE_WRFIX);
     write(NIC_RDBAL(0), (uint32_t)receives);
     write(NIC_RDBAH(0), 0);
     write(NIC_RDLEN(0), sizeof receives);
@@ -160,13 +166,39 @@ static bool start_sending(void)
     return wait_for(NIC_TXDCTL(0), NIC_TXDCTL_ENABLE, true);
 }
 
-/* Both sides of queue 0 raise cause 0. Every unmasked cause raises the only interrupt line until EICR is read. */
-static void start_interrupts(void)
+/* Has the card send its only message (MSI) in place of the line. Returns false if it has no MSI. */
+static bool use_message(void)
+{
+    struct pci_function it = card.function;
+    uint8_t at = (uint8_t)pci_read(it, CAPABILITIES);
+    while (at && (uint8_t)pci_read(it, at) != MSI)
+        at = (uint8_t)(pci_read(it, at) >> 8);
+    if (!at)
+        return false;
+    uint32_t first = pci_read(it, at);
+    struct message message = take_message();
+    pci_write(it, at + 4, message.address);
+    if (first & MSI_WIDE)
+        pci_write(it, at + 8, 0);
+    pci_write(it, at + (first & MSI_WIDE ? 12 : 8), message.data);
+    pci_write(it, at, first | MSI_ON);
+    card.line = MESSAGE;
+    return true;
+}
+
+/* Both sides of queue 0 raise cause 0. Every unmasked cause raises the only interrupt line until EICR is read; without
+   the line, each cause that becomes set and unmasked sends the message. */
+static bool start_interrupts(void)
 {
     write(NIC_IVAR(0), NIC_IVAR_INT_ALLOC_0_IS(QUEUE_CAUSE) | NIC_IVAR_INT_ALLOC_VAL_0 |
                            NIC_IVAR_INT_ALLOC_1_IS(QUEUE_CAUSE) | NIC_IVAR_INT_ALLOC_VAL_1);
-    take_line(card.line);
+    if (!use_message()) {
+        if (card.line >= 16)
+            return false;
+        take_line(card.line);
+    }
     card_unmask();
+    return true;
 }
 
 bool card_open(void)
@@ -174,9 +206,8 @@ bool card_open(void)
     if (!find() || !reset())
         return false;
     take_address();
-    if (!start_receiving() || !start_sending())
+    if (!start_receiving() || !start_sending() || !start_interrupts())
         return false;
-    start_interrupts();
     write(NIC_CTRL_EXT, read(NIC_CTRL_EXT) | NIC_CTRL_EXT_DRV_LOAD);
     return true;
 }
@@ -226,7 +257,7 @@ bool card_send(const uint8_t *frame, uint16_t length)
         return false;
     for (uint16_t k = 0; k < length; k++)
         sent[slot][k] = frame[k];
-    put(&sends[slot], nic_tx_desc((uint32_t)sent[slot], length, length, NIC_TXD_EOP | NIC_TXD_RS));
+    put(&sends[slot], nic_tx_desc((uint32_t)sent[slot], length, length, NIC_TXD_EOP | NIC_TXD_IFCS | NIC_TXD_RS));
     card.free = next;
     write(NIC_TDT(0), next);
     return true;

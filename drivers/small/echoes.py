@@ -1,9 +1,11 @@
-"""The far end of the small kernel's wire: sends frames, and checks that each comes back correctly, even after the wire
+"""The far end of a small kernel's wire: sends frames, and checks that each comes back correctly, even after the wire
 was unplugged.
 
-drivers/small/run calls it with the script that boots a kernel, the kernel, the number of frames to send, and arguments
-for QEMU. The wire uses the format of QEMU's `-netdev stream`: each frame follows its length, four bytes in big-endian
-order.
+    echoes.py RUN FRAMES [--own] WORDS..
+
+drivers/small/run calls it with the script that boots a kernel, the number of frames to send, and the words for that
+script. With --own, the kernel is the user's: nothing that it prints is expected. The wire uses the format of QEMU's
+`-netdev stream`: each frame follows its length, four bytes in big-endian order.
 """
 
 from __future__ import annotations
@@ -21,11 +23,16 @@ import time
 from collections.abc import Sequence
 from pathlib import Path
 
-SECONDS = 120.0  # seconds to wait for a line from the kernel, or for a frame
+SECONDS = float(os.environ.get("ECHO_SECONDS", "60"))  # seconds to wait for a line from the kernel, or for a frame
 FETCHING = 3600.0  # seconds to wait until QEMU has been fetched
+PROBING = 1.0  # seconds between the frames that find out whether the user's kernel is ready
 ON_THE_WAY = 32  # frames in flight: fewer than the kernel's ring has slots
 LATER = 200  # frames after the wire is plugged in again
+SHOWN = 15  # lines of the console that are printed after a failure
 OWN = bytes.fromhex("020000000001")
+USUAL = bytes.fromhex("020000008299")  # the card's address without --mac
+KIND = b"\x88\xb5"  # the frames' type, for local experiments
+PROBE = 0xFFFFFFFF  # the number of a probe
 
 
 class Wrong(Exception):
@@ -33,13 +40,13 @@ class Wrong(Exception):
 
 
 class Kernel:
-    """QEMU with the kernel on its card, and their output."""
+    """QEMU with the kernel on its card, and its console. What the scripts and the server report goes to standard
+    error."""
 
-    def __init__(self, run: str, kernel: str, wire: Path, for_qemu: Sequence[str]) -> None:
-        words = [run, "--kernel", kernel, "--server=--interrupts=intx", f"--server=--wire=listen:{wire}", "--",
-                 *for_qemu]
-        pipe = subprocess.PIPE
-        self.process = subprocess.Popen(words, stdin=pipe, stdout=pipe, stderr=subprocess.STDOUT, bufsize=0)
+    def __init__(self, run: str, words: Sequence[str], wire: Path) -> None:
+        at = words.index("--") if "--" in words else len(words)
+        line = [run, *words[:at], f"--server=--wire=listen:{wire}", *words[at:]]
+        self.process = subprocess.Popen(line, stdin=subprocess.PIPE, stdout=subprocess.PIPE, bufsize=0)
         self.text, self.at = "", 0
 
     def read(self, seconds: float) -> bool:
@@ -55,10 +62,17 @@ class Kernel:
         """Waits for a line that matches the pattern, after those already matched."""
         limit = time.monotonic() + seconds
         while not (found := re.compile(pattern, re.MULTILINE).search(self.text, self.at)):
-            if time.monotonic() > limit or not self.read(1.0):
-                raise Wrong(f"the kernel didn't print {pattern!r}; so far:\n{self.text}")
+            is_over = time.monotonic() > limit
+            if is_over or not self.read(1.0):
+                end = f"in {seconds:.0f} s" if is_over else "and ended"
+                raise Wrong(f"the kernel didn't print {pattern!r} {end}")
         self.at = found.end()
         return found
+
+    def last_lines(self) -> str:
+        """Returns the end of the console, without terminal control sequences."""
+        lines = re.sub(r"\x1b\[[0-9;?]*[A-Za-z]|\x1bc", "", self.text).strip().splitlines()
+        return "\n".join(f"  {line}" for line in lines[-SHOWN:])
 
     def end(self) -> str:
         """Ends QEMU through its console keys. Returns the server's output after that."""
@@ -78,79 +92,178 @@ class Wire:
 
     def __init__(self, path: Path) -> None:
         self.socket = socket.socket(socket.AF_UNIX)
-        self.socket.settimeout(SECONDS)
         self.socket.connect(str(path))
+        self.came = b""
 
     def send(self, frame: bytes) -> None:
+        self.socket.settimeout(SECONDS)
         self.socket.sendall(len(frame).to_bytes(4, "big") + frame)
 
-    def receive(self) -> bytes:
-        return self.exactly(int.from_bytes(self.exactly(4), "big"))
-
-    def exactly(self, count: int) -> bytes:
-        came = b""
-        while len(came) < count:
-            part = self.socket.recv(count - len(came))
+    def any_frame(self, seconds: float) -> bytes:
+        """Returns the next frame. Raises TimeoutError if it doesn't arrive in time."""
+        self.socket.settimeout(seconds)
+        while len(self.came) < 4 or len(self.came) < 4 + int.from_bytes(self.came[:4], "big"):
+            part = self.socket.recv(65536)
             if not part:
                 raise Wrong("the card closed the connection")
-            came += part
-        return came
+            self.came += part
+        end = 4 + int.from_bytes(self.came[:4], "big")
+        frame, self.came = self.came[4:end], self.came[end:]
+        return frame
+
+    def receive(self, left: int) -> bytes:
+        """Returns the next frame of the test. Ignores what a kernel sends by itself, and probes that came late."""
+        while True:
+            try:
+                frame = self.any_frame(SECONDS)
+            except TimeoutError:
+                raise Wrong(f"no frame came back for {SECONDS:.0f} s, and {left} were on the way") from None
+            if frame[12:14] == KIND and frame[14:18] != PROBE.to_bytes(4, "big"):
+                return frame
+
+
+def made(card: bytes, number: int, rest: bytes) -> tuple[bytes, bytes]:
+    """Returns a frame to the card, and what must come back."""
+    end = KIND + number.to_bytes(4, "big") + rest
+    return card + OWN + end, OWN + card + end
 
 
 def echo_all(wire: Wire, card: bytes, count: int, chance: random.Random) -> None:
     """Sends `count` frames of 60 to 1,514 bytes, and compares each that comes back, in order."""
     waiting: list[bytes] = []
     for number in range(count):
-        rest = b"\x88\xb5" + number.to_bytes(4, "big") + chance.randbytes(chance.randint(42, 1_496))
-        wire.send(card + OWN + rest)
-        waiting.append(OWN + card + rest)
+        frame, wanted = made(card, number, chance.randbytes(chance.randint(42, 1_496)))
+        wire.send(frame)
+        waiting.append(wanted)
         if len(waiting) == ON_THE_WAY:
-            compare(wire.receive(), waiting.pop(0))
+            compare(wire.receive(len(waiting)), waiting.pop(0))
     while waiting:
-        compare(wire.receive(), waiting.pop(0))
+        compare(wire.receive(len(waiting)), waiting.pop(0))
 
 
 def compare(came: bytes, wanted: bytes) -> None:
     if came != wanted:
         number = int.from_bytes(wanted[14:18], "big")
-        raise Wrong(f"frame {number}: {len(came)} bytes came back, {came[:24].hex()}..; sent: {wanted[:24].hex()}..")
+        at = next((k for k, (one, other) in enumerate(zip(came, wanted)) if one != other), min(len(came), len(wanted)))
+        raise Wrong(f"frame {number}: {len(came)} of {len(wanted)} bytes came back; at byte {at}: "
+                    f"{came[at:at + 16].hex()}, expected: {wanted[at:at + 16].hex()}")
+
+
+def probe(wire: Wire, card: bytes) -> None:
+    """Sends frames until one comes back: the user's kernel is ready."""
+    frame, wanted = made(card, PROBE, bytes(42))
+    for _ in range(int(SECONDS / PROBING)):
+        wire.send(frame)
+        limit = time.monotonic() + PROBING
+        with contextlib.suppress(TimeoutError):
+            while (left := limit - time.monotonic()) > 0:
+                if wire.any_frame(left) == wanted:
+                    return
+    raise Wrong(f"no frame came back in {SECONDS:.0f} s; each must come back to its sender, from {card.hex(':')}")
 
 
 def run(kernel: Kernel, path: Path, frames: int) -> None:
+    """The check of the kernel in this folder, which prints what it finds."""
     chance = random.Random(82599)
-    kernel.wait_for("^kernel: started$", FETCHING)
+    kernel.wait_for("^kernel: started$")
     card = bytes.fromhex(kernel.wait_for(r"^kernel: card ([0-9a-f:]{17})$")[1].replace(":", ""))
     kernel.wait_for("^kernel: link up$")
     wire = Wire(path)
-    began = time.monotonic()
-    echo_all(wire, card, frames, chance)
-    print(f"{frames:,} frames came back unchanged, in {time.monotonic() - began:.1f} s", flush=True)
+    timed(wire, card, frames, chance)
     wire.socket.close()
     kernel.wait_for("^kernel: link down$")
     wire = Wire(path)
     kernel.wait_for("^kernel: link up$")
+    later(wire, card, chance)
+
+
+def run_own(path: Path, card: bytes, frames: int) -> None:
+    """The same check of the user's kernel, whose console means nothing to it."""
+    chance = random.Random(82599)
+    wire = Wire(path)
+    probe(wire, card)
+    timed(wire, card, frames, chance)
+    wire.socket.close()
+    time.sleep(PROBING)
+    wire = Wire(path)
+    probe(wire, card)
+    later(wire, card, chance)
+
+
+def timed(wire: Wire, card: bytes, frames: int, chance: random.Random) -> None:
+    began = time.monotonic()
+    echo_all(wire, card, frames, chance)
+    print(f"{frames:,} frames came back unchanged, in {time.monotonic() - began:.1f} s", flush=True)
+
+
+def later(wire: Wire, card: bytes, chance: random.Random) -> None:
     echo_all(wire, card, LATER, chance)
     print(f"the wire was unplugged and plugged in again, and {LATER} more frames came back", flush=True)
     wire.socket.close()
 
 
-def main(script: str, elf: str, frames: int, for_qemu: Sequence[str]) -> int:
+def why(control: str) -> str:
+    """Returns the server's answer to `why`, or an empty string if the server has ended."""
+    text = ""
+    with contextlib.suppress(OSError), socket.socket(socket.AF_UNIX) as asked:
+        asked.settimeout(SECONDS)
+        asked.connect(control)
+        asked.sendall(b"why\n")
+        while not re.search(r"^(ok|error:.*)$", text, re.MULTILINE) and (part := asked.recv(65536)):
+            text += part.decode(errors="replace")
+    return "\n".join(f"  {line}" for line in text.splitlines() if line != "ok")
+
+
+def card_of(words: Sequence[str]) -> bytes:
+    """Returns the card's address: the one given to the server, or the usual one."""
+    given = [it.removeprefix("--server=--mac=") for it in words if it.startswith("--server=--mac=")]
+    return bytes.fromhex(given[-1].replace(":", "")) if given else USUAL
+
+
+def wrong_interrupts(words: Sequence[str], output: str) -> str:
+    """Returns what is wrong with the interrupts that the server counted for this folder's kernel."""
+    if "--server=--interrupts=msi" in words:
+        return "" if re.search(r" MSI:[1-9]", output) else "no MSI was sent"
+    is_kvm = "accel=kvm" in words and not re.search(r"INTx:\d+ \(unmasked by an eventfd [1-9]", output)
+    return "the line was never unmasked by an eventfd" if is_kvm else ""
+
+
+def failed(kernel: Kernel, fault: Exception, control: str, words: Sequence[str]) -> int:
+    """Prints what is known about a failure. Returns the status."""
+    if not control:  # drivers/qemu/run has reported why
+        print("drivers/small/run: no guest was started", file=sys.stderr)
+        return 2
+    reasons = why(control)
+    text = f"drivers/small/run: {fault}\nthe console's last lines:\n{kernel.last_lines()}\n"
+    text += f"the server's answer to `why`:\n{reasons}\n" if reasons else ""
+    if "accel=kvm" in words:
+        text += "Not every KVM runs every instruction: see the paragraph on `iret` in drivers/small/README.md.\n"
+    print(text, end="", file=sys.stderr)
+    print(kernel.end().strip())
+    return 1
+
+
+def main(script: str, frames: int, words: Sequence[str]) -> int:
+    is_own, words = words[0] == "--own", [it for it in words if it != "--own"]
     with tempfile.TemporaryDirectory(prefix="small-") as folder:
-        path = Path(folder) / "wire"
-        kernel = Kernel(script, elf, path, for_qemu)
+        path, control = Path(folder) / "wire", ""
+        kernel = Kernel(script, words, path)
         try:
-            run(kernel, path, frames)
+            control = kernel.wait_for(r"^drivers/qemu/run: .*control socket is (\S+)$", FETCHING)[1]
+            if is_own:
+                run_own(path, card_of(words), frames)
+                kernel.at = len(kernel.text)
+            else:
+                run(kernel, path, frames)
         except (Wrong, OSError) as fault:
-            print(f"drivers/small/run: {fault}", file=sys.stderr)
-            kernel.end()
-            return 1
+            return failed(kernel, fault, control, words)
         output = kernel.end().strip()
         print(output)
-    if "accel=kvm" in for_qemu and not re.search(r"INTx:\d+ \(unmasked by an eventfd [1-9]", output):
-        print("drivers/small/run: the line was never unmasked by an eventfd", file=sys.stderr)
+    if not is_own and (fault := wrong_interrupts(words, output)):
+        print(f"drivers/small/run: {fault}", file=sys.stderr)
         return 1
     return 0
 
 
 if __name__ == "__main__":
-    sys.exit(main(sys.argv[1], sys.argv[2], int(sys.argv[3]), sys.argv[4:]))
+    sys.exit(main(sys.argv[1], int(sys.argv[2]), sys.argv[3:]))

@@ -114,9 +114,11 @@ static void start_controllers(void)
     out8(SECOND + 1, 0xFF);
 }
 
-void take_line(uint8_t number)
+extern void on_line(void), on_spurious(void), on_other(void);
+
+/* Calls `on_line` for this line or message. The controllers raise none until one of their lines is opened. */
+static void start_interrupts(unsigned number)
 {
-    extern void on_line(void), on_spurious(void), on_other(void);
     struct {
         uint16_t limit;
         uint32_t base;
@@ -127,13 +129,39 @@ void take_line(uint8_t number)
     set_gate(VECTORS + number, on_line);
     __asm__ volatile("lidt %0" : : "m"(table));
     start_controllers();
+}
+
+void take_line(uint8_t number)
+{
+    start_interrupts(number);
     uint16_t open = (uint16_t)(1u << number | 1u << CASCADE);
     out8(FIRST + 1, (uint8_t)~open);
     out8(SECOND + 1, (uint8_t)(~open >> 8));
 }
 
+/* --- messages, at the processor's local APIC --- */
+
+enum { APIC_NUMBER = 0x20, APIC_END = 0xB0, APIC_SPURIOUS = 0xF0, APIC_ON = 0x100, NO_VECTOR = 0xFF };
+#define APIC UINT32_C(0xFEE00000)
+
+static volatile uint32_t *apic(uint32_t at)
+{
+    return (volatile uint32_t *)(APIC + at);
+}
+
+struct message take_message(void)
+{
+    start_interrupts(MESSAGE);
+    *apic(APIC_SPURIOUS) = APIC_ON | NO_VECTOR;
+    return (struct message){APIC | *apic(APIC_NUMBER) >> 24 << 12, VECTORS + MESSAGE};
+}
+
 void end_of_interrupt(uint8_t number)
 {
+    if (number == MESSAGE) {
+        *apic(APIC_END) = 0;
+        return;
+    }
     if (number >= 8)
         out8(SECOND, END);
     out8(FIRST, END);

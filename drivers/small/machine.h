@@ -1,4 +1,5 @@
-/* A kernel's view of its machine, a PC: ports, a serial line, PCI configuration, and one interrupt line. */
+/* A kernel's view of its machine, a PC: ports, a serial line, PCI configuration, and one interrupt, by line or by
+   message. */
 #ifndef MACHINE_H
 #define MACHINE_H
 
@@ -23,7 +24,13 @@ void pci_write(struct pci_function it, uint8_t offset, uint32_t word);
 
 /* Uses line `number` (0 to 15) of the interrupt controller: `line_is_up` is called while the line is up. */
 void take_line(uint8_t number);
-/* Acknowledges an interrupt of that line at the interrupt controller. */
+/* Uses a message to the local APIC instead: `line_is_up` is called for each that a device writes to this address. */
+enum { MESSAGE = 16 };
+struct message {
+    uint32_t address, data;
+};
+struct message take_message(void);
+/* Acknowledges an interrupt of that line at the interrupt controller, or (MESSAGE) of the message at the local APIC. */
 void end_of_interrupt(uint8_t number);
 /* Enables interrupts and sleeps until one occurs; they are disabled again on return. Call it with interrupts disabled,
    after checking the variables that the handler changes: an interrupt between check and sleep ends the sleep. */

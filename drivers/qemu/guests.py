@@ -43,6 +43,7 @@ class Wrong(Exception):
 # ---- processes that end with this process ----
 
 processes: list[subprocess.Popen[bytes]] = []
+ENDING = (signal.SIGTERM, signal.SIGHUP, signal.SIGINT)
 
 
 def started(words: Sequence[str | Path], **how: Any) -> subprocess.Popen[bytes]:
@@ -52,12 +53,12 @@ def started(words: Sequence[str | Path], **how: Any) -> subprocess.Popen[bytes]:
     return process
 
 
-def end_all() -> None:
-    """Ends the processes. Asks each to exit first, so that QEMU restores the terminal."""
-    for process in processes:
+def end_all(those: Iterable[subprocess.Popen[bytes]] = processes) -> None:
+    """Ends these processes. Asks each to exit first, so that QEMU restores the terminal."""
+    for process in those:
         if process.poll() is None:
             process.terminate()
-    for process in processes:
+    for process in those:
         try:
             process.wait(timeout=5)
         except subprocess.TimeoutExpired:
@@ -66,9 +67,16 @@ def end_all() -> None:
 
 
 def end_on_signals() -> None:
-    """Makes SIGTERM, SIGHUP and SIGINT end this process so that the processes it started end too."""
-    for number in (signal.SIGTERM, signal.SIGHUP, signal.SIGINT):
-        signal.signal(number, lambda got, _: sys.exit(128 + got))
+    """Makes SIGTERM, SIGHUP and SIGINT end this process so that the processes it started end too. Only the first of
+    these signals counts: `timeout` sends two."""
+
+    def end(got: int, _: object) -> None:
+        for number in ENDING:
+            signal.signal(number, signal.SIG_IGN)
+        sys.exit(128 + got)
+
+    for number in ENDING:
+        signal.signal(number, end)
 
 
 # ---- programs ----
@@ -130,24 +138,30 @@ def answer_of(lines: Iterable[str]) -> list[str]:
 
 
 class Server:
-    """A server with its sockets in a private folder."""
+    """A server with its sockets in a private folder. Its messages are in its output, or, with `is_live`, on this
+    process's standard error as they come. Then it ends only when asked, so that its counts follow all messages."""
 
-    def __init__(self, place: Place, name: str, *words: str) -> None:
+    def __init__(self, place: Place, name: str, *words: str, is_live: bool = False) -> None:
         self.folder = Path(tempfile.mkdtemp(prefix=f"{name}.", dir=place.folder))
         self.path, self.output = self.folder / "card", self.folder / "said"
         given = [f"--socket-path={self.path}", f"--control={self.folder}/control", *words]
         with open(self.output, "wb") as output:
-            self.process = started([place.program, *given], stdout=output, stderr=subprocess.STDOUT)
+            self.process = started([place.program, *given], stdout=output, start_new_session=is_live,
+                                   stderr=None if is_live else subprocess.STDOUT)
         self.socket = socket.socket(socket.AF_UNIX)
+        self.connect()
+        self.answers = self.socket.makefile("r")
+
+    def connect(self) -> None:
+        """Waits until the server has its control socket."""
         for _ in range(200):
             try:
-                self.socket.connect(str(self.folder / "control"))
-                break
+                return self.socket.connect(str(self.folder / "control"))
             except OSError:
                 time.sleep(0.05)
-        else:
-            raise Wrong(f"the server didn't start: {self.output.read_text()}")
-        self.answers = self.socket.makefile("r")
+            if self.process.poll() is not None:
+                break
+        raise Wrong(f"the server didn't start: {self.output.read_text()}".rstrip(": \n"))
 
     def ask(self, words: str) -> list[str]:
         self.socket.sendall(f"{words}\n".encode())
@@ -681,7 +695,7 @@ def needs_of(words: list[str]) -> list[str]:
         return words[1:]
     if words[:1] == ["--measure"]:
         return ["qemu", "tools", "kernel-6.1"]
-    if words[:1] in (["--kernel"], ["--disk"]):
+    if is_own(words):
         return ["qemu"]
     return list(dict.fromkeys(["qemu", *(it for name in names_of(words) for it in run_named(name).needs)]))
 
@@ -710,25 +724,74 @@ def own_words(words: list[str]) -> tuple[dict[str, str], list[str], list[str]]:
     return given, for_server, rest[1:]
 
 
-def own(place: Place, words: list[str]) -> int:
-    """Boots the user's kernel or disk on this terminal."""
+# In an ELF file: what QEMU's Multiboot loader looks for, and the note with which QEMU loads a 64-bit kernel (PVH).
+MULTIBOOT = (0x1BADB002).to_bytes(4, "little")
+PVH = re.compile(rb"\x04\0\0\0.\0\0\0\x12\0\0\0Xen\0", re.DOTALL)
+FOR_64_BITS = ("it's a 64-bit ELF file, and QEMU loads only 32-bit ones. If its entry is 32-bit code, copy it with "
+               "`objcopy -O elf32-i386`; otherwise boot a disk image with your boot loader (--disk)")
+
+
+def own_fault(path: Path, is_kernel: bool) -> str:
+    """Returns why a guest can't start from the user's file, and what to do; an empty string if it can."""
+    if not path.is_file():
+        return "no such file"
+    start = path.read_bytes() if is_kernel else b""
+    is_refused = start[:5] == b"\x7fELF\x02" and (MULTIBOOT in start[:8192] or not PVH.search(start))
+    return FOR_64_BITS if is_refused else ""
+
+
+def own_status(words: list[str]) -> int:
+    """Checks the arguments for the user's own guest. Returns 0, or prints the fault and returns the status to exit
+    with."""
     try:
-        given, for_server, for_qemu = own_words(words)
+        given, _, _ = own_words(words)
     except Wrong as fault:
         print(f"drivers/qemu/run: {fault}", file=sys.stderr)
         return 3
-    server = Server(place, "own", *for_server)
+    for name in (it for it in OWN_FILES if it in given):
+        if fault := own_fault(Path(given[name]), name == "--kernel"):
+            print(f"drivers/qemu/run: {given[name]}: {fault}", file=sys.stderr)
+            return 2
+    return 0
+
+
+def own_line(place: Place, given: dict[str, str], card: Path) -> list[str]:
+    """Returns QEMU's arguments for the user's own guest."""
     line = [*place.qemu("qemu-system-x86_64"), "-machine", "q35,accel=tcg,memory-backend=ram", "-nographic",
-            "-nic", "none", *memory("2G"), "-cpu", "max", "-smp", "2", *port(), *device(server.path)]
+            "-nic", "none", *memory("2G"), "-cpu", "max", "-smp", "2", *port(), *device(card)]
     for name in ("--kernel", "--initrd"):
         line += [name[1:], given[name]] if name in given else []
     line += ["-append", "console=ttyS0"] if "--kernel" in given else []
     line += ["-drive", f"file={given['--disk']},if=virtio"] if "--disk" in given else []
-    line += ["-s", "-S"] if "--gdb" in given else []
-    print(f"drivers/qemu/run: the card answers at 10.0.0.1; its control socket is {server.folder}/control", flush=True)
-    status = started([*line, *for_qemu]).wait()
-    print(server.end())
-    return status
+    return [*line, *(["-s", "-S"] if "--gdb" in given else [])]
+
+
+def last_words(server: Server) -> str:
+    """Ends the server. Returns its counts, or why there are none."""
+    try:
+        return server.end()
+    except Wrong as fault:
+        return f"drivers/qemu/run: {fault}"
+
+
+def own(place: Place, words: list[str]) -> int:
+    """Boots the user's kernel or disk on this terminal, and prints the server's counts at the end, also after a
+    signal."""
+    given, for_server, for_qemu = own_words(words)
+    try:
+        server = Server(place, "own", *for_server, is_live=True)
+    except Wrong as fault:
+        print(f"drivers/qemu/run: {fault}", file=sys.stderr)
+        return 2
+    answers = "" if any(it.startswith("--wire=") for it in for_server) else "the card's wire answers at 10.0.0.1; "
+    print(f"drivers/qemu/run: {answers}ctrl-A X ends QEMU; the server's control socket is {server.folder}/control",
+          flush=True)
+    guest = started([*own_line(place, given, server.path), *for_qemu])
+    try:
+        return guest.wait()
+    finally:
+        end_all([guest])
+        print(last_words(server), flush=True)
 
 
 def all_runs(place: Place, names: list[str]) -> int:
@@ -746,8 +809,14 @@ def all_runs(place: Place, names: list[str]) -> int:
     return 1 if failed else 0
 
 
+def is_own(words: list[str]) -> bool:
+    return words[:1] in (["--kernel"], ["--disk"])
+
+
 def ask(asks: str, words: list[str]) -> int:
-    """Answers drivers/qemu/run's queries."""
+    """Answers drivers/qemu/run's queries. Refuses an own guest that can't start before anything is fetched for it."""
+    if is_own(words) and (status := own_status(words)):
+        return status
     print(*(RUNS if asks == "--list" else needs_of(words)), sep="\n")
     return 0
 
@@ -770,7 +839,7 @@ def main(words: list[str]) -> int:
     os.environ["LC_ALL"] = "C.UTF-8"
     place = Place(Path(fetched[0]), Path(fetched[1]), Path(fetched[2]))
     begin(place)
-    return own(place, words) if words[:1] in (["--kernel"], ["--disk"]) else all_runs(place, names)
+    return own(place, words) if is_own(words) else all_runs(place, names)
 
 
 if __name__ == "__main__":

@@ -11,6 +11,7 @@ from pathlib import Path
 
 LIBRARIES = "lib/x86_64-linux-gnu"
 FOLDERS = ("bin", "dev", "proc", "sys", "tmp", "lib", "lib64", LIBRARIES, "modules", "var", "var/www")
+ENDINGS = ("ko", "ko.xz", "ko.gz")
 UNPACK: dict[str, Callable[[bytes], bytes]] = {".xz": lzma.decompress, ".gz": gzip.decompress}
 APPLETS = """
 [ ash awk basename cat chmod cut date dd dirname dmesg echo expr false grep gzip head hostname httpd ifconfig insmod
@@ -31,6 +32,13 @@ poweroff -f
 """
 
 
+def find_module(modules: Path, name: str) -> Path | None:
+    """Finds a module's file in the folder of a kernel's modules, or in a folder of modules without kernel/."""
+    pattern = re.sub("[-_]", "[-_]", name)
+    below = "kernel/**" if (modules / "kernel").is_dir() else "**"
+    return next((it for end in ENDINGS for it in modules.glob(f"{below}/{pattern}.{end}")), None)
+
+
 class Initrd:
     """Files by name; `modules` is the folder of a kernel's modules."""
 
@@ -48,9 +56,7 @@ class Initrd:
 
     def find_module(self, name: str) -> Path | None:
         """Finds a module's file, by its name with - or _. Returns None if it is built in."""
-        pattern = re.sub("[-_]", "[-_]", name)
-        found = [it for end in ("ko", "ko.xz", "ko.gz") for it in self.modules.glob(f"kernel/**/{pattern}.{end}")]
-        return found[0] if found else None
+        return find_module(self.modules, name)
 
     def add_module(self, name: str) -> None:
         """Adds a module with its dependencies, and the list NAME.list in load order."""

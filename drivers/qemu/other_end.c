@@ -83,7 +83,7 @@ static void take_frame(size_t length)
     unsigned int before = traffic.expected.good;
     size_t answer = respond(wire.frame, length, own, OWN_ADDRESS, reply);
     if (answer)
-        wire_send(&wire, reply, answer);
+        wire_send(&wire, 0, reply, answer);
     traffic_take(&traffic, wire.frame, length);
     if (traffic.expected.good == before)
         return;
@@ -107,7 +107,7 @@ static void give_frames(void)
 {
     while (buffer_waiting(&wire.out) < AHEAD && traffic_has_more(&traffic)) {
         const struct frame *frame = traffic_next(&traffic);
-        wire_send(&wire, frame->bytes, frame->length);
+        wire_send(&wire, 0, frame->bytes, frame->length);
     }
 }
 

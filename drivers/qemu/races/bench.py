@@ -18,6 +18,7 @@ from initrd import Initrd  # noqa: E402
 from verdict import (  # noqa: E402
     FATAL,
     NOTES,
+    SKIPS,
     Finding,
     checked,
     counted,
@@ -119,8 +120,12 @@ class Outcome:
         return any(it.kind in FATAL for it in self.findings)
 
     @property
+    def failures(self) -> list[Finding]:
+        return [it for it in self.findings if it.kind not in NOTES[self.driver]]
+
+    @property
     def fails(self) -> bool:
-        return any(it.kind not in NOTES[self.driver] for it in self.findings)
+        return bool(self.failures)
 
     @property
     def is_broken(self) -> bool:
@@ -128,14 +133,25 @@ class Outcome:
         return any(it.kind in ("server", "boot") for it in self.findings)
 
     @property
+    def is_unrun(self) -> bool:
+        """Returns whether the reporter's script can't run in the guest, which says nothing about the driver."""
+        return any(it.kind == "can't run" for it in self.findings)
+
+    @property
+    def is_starved(self) -> bool:
+        """Returns whether the guest ran out of memory, which may be the cause of its other findings."""
+        return any(it.kind == "memory" for it in self.findings)
+
+    @property
     def is_untried(self) -> bool:
-        """Returns whether the reporter's script reports that it can't be tried in this guest, and nothing else
-        failed."""
-        return not self.fails and any(it.kind == "not tried" for it in self.findings)
+        """Returns whether the reporter's script can't be tried or can't run in this guest, and nothing else failed."""
+        return not self.fails and any(it.kind in SKIPS for it in self.findings)
 
     @property
     def verdict(self) -> str:
-        return self.findings[0].kind if self.fails else "not tried" if self.is_untried else "ok"
+        if self.fails:
+            return self.failures[0].kind
+        return next((it.kind for it in self.findings if it.kind in SKIPS), "ok")
 
     def matches(self, pattern: str) -> bool:
         """Returns whether the pattern matches a finding, or the guest's output if the guest was discarded."""
@@ -251,7 +267,8 @@ class Bench:
     def add_own(self, it: Initrd) -> None:
         """Adds the reporter's script and programs."""
         if self.setting.script:
-            it.add_file("own", self.setting.script.read_bytes(), 0o755)
+            it.files["own"] = (0o040755, b"")
+            it.add_file(f"own/{self.setting.script.name}", self.setting.script.read_bytes(), 0o755)
         for program in self.setting.programs:
             if program.read_bytes()[:4] == b"\x7fELF":
                 it.add_program(program, Path("/"))
@@ -289,7 +306,9 @@ class Bench:
         if ends != "done":
             findings.append(Finding("stuck", f"{ends}; last: {self.last_operation(lines)}"))
         else:
-            findings = [*went_on(findings), *scripted(lines, self.plan.limit), *checked(lines, self.plan.is_function)]
+            script_name = self.setting.script.name if self.setting.script else ""
+            own = scripted(lines, self.plan.limit, script_name)
+            findings = [*went_on(findings), *own, *checked(lines, self.plan.is_function)]
         rounds = len({it for it in lines if it.startswith("@search doing round")})
         outcome = Outcome(self.kernel.name, self.plan.driver, seed, worst_first(findings), rounds,
                           time.time() - began, lines)
@@ -329,6 +348,7 @@ class Bench:
         for guest in (getattr(self, "guest", None), self.host):
             if guest:
                 guest.kill()
+                guest.reader.join(5)
         if self.server.process.poll() is None:
             self.server.process.terminate()
             self.server.process.wait()

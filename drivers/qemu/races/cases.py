@@ -7,20 +7,18 @@ from dataclasses import dataclass
 
 @dataclass(frozen=True)
 class Case:
-    """A defect: the kernel and driver that contain it, the verdict and pattern that identify it, and the number of
-    seeds within which it appears."""
+    """A defect: the kernel and driver that contain it, and the verdict and pattern that identify it."""
 
     kernel: str
     driver: str
     kind: str
     pattern: str
-    seeds: int
     text: str
 
 
 CASES = {
     "ixgbe-down-lockup": Case(
-        "linux-6.1", "ixgbe", "lockup", "ixgbe_clean_tx_ring", 20,
+        "linux-6.1", "ixgbe", "lockup", "ixgbe_clean_tx_ring",
         "ixgbe_watchdog_subtask checks __IXGBE_DOWN, finds that the link is up, and wakes the transmit queues. "
         "Between the check and the wake, ixgbe_down, which doesn't wait for the watchdog, stops the queues and empties "
         "their rings. A frame then enters such a ring, and the next ixgbe_down loops over it forever",

@@ -4,24 +4,34 @@ drivers/qemu/races/check.py; it takes a second. Status 0: all passed."""
 
 from __future__ import annotations
 
+import argparse
+import contextlib
 import dataclasses
+import email
 import gzip
+import io
+import os
+import signal
+import struct
+import subprocess
 import sys
 import tempfile
-from collections.abc import Sequence
+from collections.abc import Callable, Sequence
 from pathlib import Path
 
 sys.dont_write_bytecode = True
-sys.path.insert(0, str(Path(__file__).resolve().parent))
+HERE = Path(__file__).resolve().parent
+sys.path.insert(0, str(HERE))
 from bench import Outcome, Setting, is_locked  # noqa: E402
-from guests import Wrong, needs_of, own_words  # noqa: E402
-from initrd import Initrd  # noqa: E402
-from main import Search, plan_of  # noqa: E402
+from guests import Wrong, needs_of, own_fault, own_words  # noqa: E402
+from images import Unfit, check_module, check_modules, check_script, kernel_version  # noqa: E402
+from initrd import Initrd, find_module  # noqa: E402
+from main import Search, Task, plan_of  # noqa: E402
 from modules import Unreadable, unpack_modules  # noqa: E402
-from report import junit, line, table  # noqa: E402
+from report import junit, keep_console, line, table  # noqa: E402
 from verdict import Finding, checked, counted, numbers, scripted, spoken, went_on, worst_first  # noqa: E402
 from windows import rows_of, windows  # noqa: E402
-from words import needs, read_words  # noqa: E402
+from words import machine_memory, needs, read_words  # noqa: E402
 from workload import Plan, script  # noqa: E402
 
 LOCKUP = """[   35.242358] watchdog: BUG: soft lockup - CPU#1 stuck for 13s! [ip:129]
@@ -67,6 +77,9 @@ def verdicts() -> None:
     assert is_locked(["@search doing mtu", *LOCKUP]) and not is_locked([*LOCKUP, "@search doing mtu"])
     assert not list(counted(counts(outside=3, refused=3), counts(outside=3, refused=3)))
     assert kinds(list(counted(counts(outside=3, refused=3), counts(outside=4, refused=4)))) == ["tail outside"]
+    for starved in ("ethtool: page allocation failure: order:4", "Out of memory: Killed process 9 (frames)"):
+        (found_memory,) = spoken([f"[   35.2] {starved}"])
+        assert found_memory.kind == "memory" and found_memory.text == f"{starved}; give the guest more with --memory"
     three = [Finding("fault", "b"), Finding("lockup", "a"), Finding("fault", "c")]
     assert kinds(worst_first(three)) == ["lockup", "fault"]
 
@@ -101,11 +114,20 @@ def own_workloads(folder: Path) -> None:
     assert alone == ["begin 7", "round 1", "own 7 1 9", "own_ends", "answers", "settle", "finish 7"], alone
     assert [it for it in beside.splitlines() if not it.startswith("own")] == ["begin 7 quiet", *drawn[1:]], beside
     assert "\nround 1\nown 7 1 60\n" in beside and "\nown_ends\nanswers\n" in beside, beside
-    for status, text in ((0, ""), (1, "wrong"), (7, "status 7"), (137, "not finished in 9 s")):
+    patient = script(7, plan_of(read_words(["--script", str(own), "--limit", "9", "--patience", "4"])))
+    assert "\nown 7 1 36\n" in patient, patient
+    for status, text in (
+        (0, ""), (1, "script: round 2: a.sh exited with status 1"), (7, "script: round 2: a.sh exited with status 7"),
+        (137, "script: round 2: a.sh didn't finish in 9 s"), (2, "script: round 2: a.sh exited with status 2"),
+        (126, "can't run: round 2: a.sh exited with status 126: a file can't be executed"),
+        (127, "can't run: round 2: a.sh exited with status 127: a command wasn't found"),
+        (125, "not tried: round 2: a.sh exited with status 125"),
+    ):  # fmt: skip
         lines = ["script: sent", "script: lost", *[f"@search script 2 {status}"] * 3]
-        found = "".join(f"{it.kind}: {it.text}" for it in scripted(lines, 9))
-        assert found == (f"script: round 2: {text}; last: lost" if text else ""), (status, found)
-    assert kinds(list(scripted(["@search script 1 125"], 9))) == ["not tried"]
+        found = "".join(f"{it.kind}: {it.text}" for it in scripted(lines, 9, "a.sh"))
+        assert found == (f"{text}; last line: lost" if text else ""), (status, found)
+    unparsed = ["script: a.sh: line 3: syntax error: unexpected end of file", "@search script 1 2"]
+    assert kinds(list(scripted(unparsed, 9, "a.sh"))) == ["can't run"]
     assert not list(spoken(["script: BUG: no bug", "script: WARNING: possible circular locking"]))
     assert kinds(list(spoken(["WARNING: possible circular locking dependency detected"]))) == ["kernel"]
 
@@ -114,6 +136,99 @@ def patience() -> None:
     assert Setting().append.endswith("watchdog_thresh=5"), Setting().append
     assert "watchdog_thresh=40 rcupdate.rcu_cpu_stall_timeout=168" in Setting(patience=8).append
     assert "watchdog_thresh=60 rcupdate.rcu_cpu_stall_timeout=300" in Setting(patience=99).append
+
+
+def refused(words: Sequence[str]) -> str:
+    """Returns the message with which the arguments are refused, and the status."""
+    said = io.StringIO()
+    try:
+        with contextlib.redirect_stderr(said):
+            read_words(words)
+    except SystemExit as ended:
+        return f"{said.getvalue()}{ended.code}"
+    return ""
+
+
+def arguments() -> None:
+    """Checks that a message about a number names the range, and that --bisect changes the status."""
+    most = machine_memory()
+    assert f"999999999 isn't a whole number from 128 to {most}, this machine's" in refused(["--memory", "999999999"])
+    assert "0 isn't a whole number from 1 to 100;" in refused(["--patience", "0"])
+    assert "101 isn't a whole number from 1 to 100;" in refused(["--patience", "101"])
+    assert f"this machine has {most} MB" in refused(["--memory", str(most // 2 + 1), "--jobs", "2"])
+    assert not refused(["--memory", str(most // 2), "--jobs", "2"])
+    assert refused(["--bad"]).endswith("\n3") and refused(["--bad", "--bisect"]).endswith("git bisect stops\n131")
+    given = read_words(["--case", "ixgbe-down-lockup", "--seeds", "5"])
+    assert (given.linux, given.seeds, given.rounds) == ("linux-6.1", [5], 2), given
+
+
+def module(folder: Path, version: str, more: str = "") -> Path:
+    file = folder / "kernel/net/ixgbe.ko"
+    file.parent.mkdir(parents=True, exist_ok=True)
+    file.write_bytes(f"\0vermagic={version} SMP mod_unload{more} \0".encode())
+    return file
+
+
+def bzimage(version: str, words: int = 4) -> bytes:
+    """A bzImage with one sector of setup code, and this many 16-byte units after it."""
+    head = bytearray(1024 + 64)
+    head[0x1F1] = 1
+    struct.pack_into("<I", head, 0x1F4, words)
+    head[0x202:0x206] = b"HdrS"
+    struct.pack_into("<H", head, 0x20E, 0x100)
+    text = f"{version} (builder) #1".encode()
+    head[0x300 : 0x300 + len(text)] = text
+    return bytes(head)
+
+
+def elf(note: int) -> bytes:
+    """A 64-bit ELF kernel with one note, of this type."""
+    head = bytearray(b"\x7fELF\x02\x01".ljust(64, b"\0"))
+    struct.pack_into("<H", head, 18, 62)
+    struct.pack_into("<Q", head, 32, 64)
+    struct.pack_into("<HH", head, 54, 56, 1)
+    entry = struct.pack("<IIQQQQQQ", 4, 0, 120, 0, 0, 24, 24, 4)
+    return bytes(head) + entry + struct.pack("<III", 4, 8, note) + b"Xen\0" + bytes(8) + b"Linux version 6.2 (a)"
+
+
+def unfit(check: Callable[..., object], *words: object) -> str:
+    try:
+        check(*words)
+    except Unfit as fault:
+        return str(fault)
+    return ""
+
+
+def images(folder: Path) -> None:
+    """Checks which kernels and modules are refused before a guest boots."""
+    image, at = folder / "bzImage", folder / "lib/6.1"
+    for data, said in (
+        (bytes(4096), "HdrS at 0x202"), (b"", "HdrS at 0x202"), (bzimage("6.1", 999), "is incomplete: it has 1088"),
+        (b"\x1f\x8b" + bytes(900), "another machine"), (bytes(56) + b"ARM\x64" + bytes(900), "another machine"),
+        (elf(1), "no PVH entry"),
+    ):  # fmt: skip
+        image.write_bytes(data)
+        assert said in unfit(kernel_version, image), (said, unfit(kernel_version, image))
+    for data, version in ((bzimage("6.1.7-mine"), "6.1.7-mine"), (elf(18), "6.2")):
+        image.write_bytes(data)
+        assert kernel_version(image) == version, kernel_version(image)
+    file = module(at, "6.1")
+    assert not unfit(check_modules, at, "6.1") and not unfit(check_modules, at, None)
+    assert unfit(check_modules, at, "6.2").endswith("are of 6.1, but the kernel is 6.2")
+    assert f"it contains 6.1, so give {at}" in unfit(check_modules, at.parent, "6.1")
+    assert "isn't a folder" in unfit(check_modules, image, "6.1")
+    assert not unfit(check_modules, file.parent, "6.1") and "6.1" in unfit(check_modules, file.parent, "6.2")
+    assert find_module(file.parent, "ixgbe") == file == find_module(at, "ixgbe")
+    assert "is built for 6.1" in unfit(check_module, file, "6.2") and not unfit(check_module, file, "6.1")
+    assert not unfit(check_module, module(folder / "other", "6.1", " modversions"), "6.2")
+    assert "no vermagic" in unfit(check_module, image, "6.2")
+    shell = folder / "busybox"
+    shell.write_text('#!/bin/sh\nshift\nexec sh "$@"\n')
+    shell.chmod(0o755)
+    for text, said in (("exit 7\n", ""), ("while :; do\n", "mine.sh can't run in the guest")):
+        (folder / "mine.sh").write_text(text)
+        found = unfit(check_script, folder / "mine.sh", shell)
+        assert said in found and bool(said) == bool(found), found
 
 
 def seed(number: int, kind: str, text: str = "", lines: Sequence[str] = ()) -> Outcome:
@@ -127,6 +242,7 @@ def statuses(folder: Path) -> None:
     quiet, lost = seed(3, ""), seed(4, "frames", "out: 299 of 300")
     untried, broken, ended = seed(5, "not tried"), seed(6, "boot", "Kernel panic"), seed(7, "server", "status 1")
     tail = seed(8, "tail off", "", hung.lines)
+    unrun, starved = seed(9, "can't run"), Outcome("k", "ixgbe", 10, [*hung.findings, Finding("memory", "")], 1, 1.0)
     match = ["--match", "ixgbe_clean_tx_ring"]
     for words, outcomes, status in (
         ([], [quiet], 0), ([], [quiet, lost], 1), ([], [quiet, untried], 0), ([], [untried], 2), ([], [broken], 1),
@@ -134,14 +250,22 @@ def statuses(folder: Path) -> None:
         (["--bisect"], [quiet], 0), (["--bisect"], [quiet, lost], 1), (["--bisect"], [quiet, untried], 125),
         (["--bisect"], [broken], 125), (["--bisect"], [broken, loop], 1), (["--bisect"], [ended], 130),
         (["--bisect", *match], [quiet, lost], 0), (["--bisect", *match], [hung], 1),
+        ([], [unrun], 2), ([], [quiet, unrun], 0), (["--bisect"], [unrun], 130), (["--bisect"], [quiet, unrun], 130),
+        ([], [starved], 1), (["--bisect"], [starved], 125), (["--bisect"], [quiet, starved], 125),
+        (["--bisect", "--match", "ip blocked"], [starved], 1), (["--bisect", "--match", "oops"], [starved], 125),
     ):  # fmt: skip
         given = read_words(words)
         search = Search(None, None, plan_of(given), given)  # type: ignore[arg-type]
         search.outcomes = list(outcomes)
         assert search.status() == status, (words, [it.verdict for it in outcomes], search.status())
+        ends = any(search.ends_bisect(it) for it in outcomes)
+        assert "--bisect" not in words or ends == (status != 0), (words, [it.verdict for it in outcomes], ends)
     assert line(untried).endswith(": not tried: ") and "| 1 | 0 | 1 |" in table([untried]), table([untried])
-    junit([untried, loop], folder / "junit.xml")
-    assert 'tests="2" failures="1" skipped="1"' in (folder / "junit.xml").read_text()
+    junit([untried, loop, unrun], folder / "junit.xml")
+    written = (folder / "junit.xml").read_text()
+    assert 'tests="3" failures="1" skipped="2"' in written and 'skipped message="can\'t run: ' in written, written
+    both = Outcome("k", "ixgbe", 11, [*unrun.findings, Finding("tail off", "")], 1, 1.0)
+    assert (unrun.verdict, both.verdict, both.is_untried) == ("can't run", "tail off", False)
 
 
 def fetches() -> None:
@@ -194,6 +318,68 @@ def reports(folder: Path) -> None:
     assert 'tests="2" failures="1"' in (folder / "junit.xml").read_text()
 
 
+def kept(folder: Path) -> None:
+    """Checks that each seed's console is kept, and that an interrupted search records nothing."""
+    words = argparse.Namespace(**{**vars(read_words([])), "out": folder / "kept"})
+    words.out.mkdir()
+    search = Search(None, None, plan_of(words), words)  # type: ignore[arg-type]
+    with contextlib.redirect_stdout(io.StringIO()):
+        search.judge(Task(3), seed(3, "", "", ["script: it ran"]))
+    assert (words.out / "consoles/k-ixgbe-3.txt").read_text() == "script: it ran\n" and search.is_clean
+    keep_console(seed(3, "", "", ["first"] + ["last"] * 2000), True, words.out / "consoles")
+    assert "first" not in (words.out / "consoles/k-ixgbe-3.again.txt").read_text()
+    with contextlib.redirect_stdout(io.StringIO()):
+        search.judge(Task(5), seed(5, "can't run"))
+    assert not (words.out / "failures").exists() and not search.is_clean
+    search.outcomes.pop()
+    search.is_interrupted = True
+    search.judge(Task(4), seed(4, "boot"))
+    assert [it.seed for it in search.outcomes] == [3] and not (words.out / "failures").exists()
+
+
+# A search whose guest is a process that sleeps, and fails when it ends.
+SLEEPING = """
+import sys
+from pathlib import Path
+sys.path.insert(0, sys.argv[1])
+import main
+from guests import started
+def attempt(self, task, bench):
+    guest = started(["sleep", "60"])
+    print("boots", flush=True)
+    guest.wait()
+    return main.Outcome("k", "ixgbe", task.seed, [main.Finding("boot", "")], 0, 1.0), None
+main.Search.attempt = attempt
+main.kernel_of = lambda place, given: None
+sys.exit(main.main([*sys.argv[2:5], "--seeds", "1-2", "--jobs", "1"]))
+"""
+
+
+def interruptions(folder: Path) -> None:
+    """Checks that a signal ends a search with one line, without findings, and leaves no files."""
+    place = folder / "interrupted"
+    place.mkdir()
+    words = [sys.executable, "-c", SLEEPING, str(HERE), str(place), str(place), str(place)]
+    for number in (signal.SIGTERM, signal.SIGINT):
+        search = subprocess.Popen(words, env={**os.environ, "TMPDIR": str(place)}, text=True,
+                                  stdout=subprocess.PIPE, stderr=subprocess.PIPE)
+        assert search.stdout and "1 guest at a time tries 2 seeds" in search.stdout.readline()
+        assert search.stdout.readline() == "boots\n"
+        search.send_signal(number)
+        output, said = search.communicate(timeout=30)
+        assert said == "drivers/qemu/search: interrupted; the guests were stopped\n" and not output, (said, output)
+        assert search.returncode == 128 + number and not list(place.iterdir()), (search.returncode, place)
+
+
+def patches() -> None:
+    """Checks that each patch is a mail from which `git am` takes an author, a subject and a message."""
+    for patch in (HERE.parent / "patches").iterdir():
+        mail = email.message_from_string(patch.read_text())
+        message = str(mail.get_payload()).split("\n---\n")[0]
+        assert "@" in mail["From"] and mail["Subject"].startswith("[PATCH "), (patch, mail.items())
+        assert len(message) > 100 and "+++" not in message and "Signed-off-by" not in message, (patch, message)
+
+
 def own_guests() -> None:
     """Checks that arguments for the server and for QEMU are separated, and that errors name the faulty option."""
     words = ["--kernel", "vmlinuz", "--server=--wire=none", "--gdb", "--server=--bare", "--", "-m", "--kernel"]
@@ -209,14 +395,46 @@ def own_guests() -> None:
             raise AssertionError(wrong)
 
 
+def own_files(folder: Path) -> None:
+    """Checks that a kernel which QEMU can't load is refused, and no other."""
+    elf, multiboot, note = b"\x7fELF", b"\x02\xb0\xad\x1b", b"\4\0\0\0\4\0\0\0\x12\0\0\0Xen\0"
+    assert own_fault(folder / "none", True) == "no such file"
+    for is_refused, content in (
+        (False, b"bzImage"), (False, elf + b"\1" + multiboot), (True, elf + b"\2" + multiboot), (True, elf + b"\2"),
+        (False, elf + b"\2" + note), (True, elf + b"\2" + multiboot + note),
+    ):  # fmt: skip
+        (folder / "kernel").write_bytes(content)
+        assert ("64-bit" in own_fault(folder / "kernel", True)) == is_refused, content
+        assert not own_fault(folder / "kernel", False)
+
+
+def signals(folder: Path) -> None:
+    """Checks that a process that gets a signal twice, as from `timeout`, still runs what it registered for its end."""
+    program = folder / "ends.py"
+    program.write_text(
+        f"import sys; sys.path.insert(0, {str(Path(__file__).resolve().parents[1])!r})\n"
+        "import atexit, os, signal\nfrom guests import end_on_signals\n"
+        "atexit.register(lambda: (os.kill(os.getpid(), signal.SIGTERM), print('ended')))\n"
+        "end_on_signals(); os.kill(os.getpid(), signal.SIGTERM)\n")
+    got = subprocess.run([sys.executable, program], capture_output=True, text=True, check=False)
+    assert (got.returncode, got.stdout, got.stderr) == (143, "ended\n", ""), got
+
+
 def main() -> int:
     with tempfile.TemporaryDirectory() as folder:
         own_guests()
+        own_files(Path(folder))
+        signals(Path(folder))
+        patches()
         verdicts()
         checks()
         workloads()
         own_workloads(Path(folder))
         patience()
+        arguments()
+        images(Path(folder))
+        kept(Path(folder))
+        interruptions(Path(folder))
         statuses(Path(folder))
         fetches()
         archives(Path(folder))

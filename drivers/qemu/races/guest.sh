@@ -71,15 +71,15 @@ host() {
 }
 round() { doing round "$@"; }
 
-# own SEED ROUND SECONDS: starts the reporter's script, with a limit of SECONDS. Each line of its output is printed with
-# "script: " in front; an "@control WORDS" line is a request to the server.
+# own SEED ROUND SECONDS: starts the reporter's script, the only file in /own, with a limit of SECONDS. Each line of its
+# output is printed with "script: " in front; an "@control WORDS" line is a request to the server.
 own() {
     doing own "$2"
     own_round=$2
     own_limit=$3
     rm -f /tmp/group /tmp/over
     IFACE=eth0 PEER=10.0.0.1 SEED=$1 ROUND=$2 LIMIT=$3 OVER=/tmp/over \
-        timeout -s KILL "$3" setsid sh -c 'echo $$ >/tmp/group; exec sh /own' >/tmp/printed 2>&1 </dev/null &
+        timeout -s KILL "$3" setsid sh -c 'echo $$ >/tmp/group; exec sh /own/*' >/tmp/printed 2>&1 </dev/null &
     own=$!
 }
 
@@ -100,10 +100,11 @@ own_ends() {
     done
 }
 
-# Prints each line of the script's output.
+# Prints each line of the script's output. The shell's messages begin with the script's path in the guest, of which only
+# the name is printed.
 repeats() {
     mkfifo /tmp/printed
-    while IFS= read -r line || [ -n "$line" ]; do echo "script: $line"; done </tmp/printed &
+    while IFS= read -r line || [ -n "$line" ]; do echo "script: ${line#/own/}"; done </tmp/printed &
     exec 3>/tmp/printed
 }
 

@@ -60,6 +60,13 @@ def decompressed(data: bytes) -> bytes:
 
 def unpack_modules(initrd: Path, to: Path) -> Path:
     """Unpacks an initial file system's modules into a folder laid out as a kernel's."""
+    try:
+        return unpack_files(initrd, to)
+    except Unreadable as fault:
+        raise Unreadable(f"{initrd}: {fault}") from None
+
+
+def unpack_files(initrd: Path, to: Path) -> Path:
     found = 0
     try:
         for name, content in files(initrd.read_bytes()):

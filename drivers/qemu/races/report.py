@@ -14,6 +14,7 @@ from pathlib import Path
 from xml.etree import ElementTree
 
 from bench import Outcome
+from guests import started
 from verdict import KINDS
 from windows import Window, text_of, with_tails
 
@@ -21,6 +22,7 @@ ROOT = Path(__file__).resolve().parents[3]
 EVENTS = 3000  # maximum number of events on a recording's page
 EVENTS_DOWN = 12_000  # maximum number of events on a page about a period in which the card was down
 AFTER = 60  # lines of the recording to show after such a period
+CONSOLE_LINES = 2000  # maximum number of lines of a seed's console
 TELL_SECONDS = 10  # seconds between two progress lines
 
 
@@ -60,10 +62,14 @@ def again(it: Outcome) -> str:
     return f"; {how} when run alone: {said(it.again)}"
 
 
+def plural(many: int, what: str) -> str:
+    return f"{many} {what}{'' if many == 1 else 's'}"
+
+
 def line(it: Outcome) -> str:
     """Returns the line for a seed."""
-    rounds = f"{it.rounds} round{'' if it.rounds == 1 else 's'}"
-    return f"{it.kernel} {it.driver} seed {it.seed}: {rounds} in {it.seconds:.0f} s: {said(it)}{again(it)}"
+    took = f"{plural(it.rounds, 'round')} in {it.seconds:.0f} s"
+    return f"{it.kernel} {it.driver} seed {it.seed}: {took}: {said(it)}{again(it)}"
 
 
 def table(outcomes: Sequence[Outcome]) -> str:
@@ -89,10 +95,10 @@ def junit(outcomes: Iterable[Outcome], to: Path) -> None:
         case = ElementTree.SubElement(suite, "testcase", classname=f"{it.kernel}.{it.driver}", name=name,
                                       time=f"{it.seconds:.1f}")
         if it.fails:
-            failure = ElementTree.SubElement(case, "failure", message=f"{it.verdict}: {it.findings[0].text}"[:300])
+            failure = ElementTree.SubElement(case, "failure", message=f"{it.verdict}: {it.failures[0].text}"[:300])
             failure.text = line(it)
         elif it.is_untried:
-            ElementTree.SubElement(case, "skipped", message=it.findings[0].text[:300])
+            ElementTree.SubElement(case, "skipped", message=said(it)[:300])
     suite.set("tests", str(len(suite)))
     suite.set("failures", str(len(suite.findall("testcase/failure"))))
     suite.set("skipped", str(len(suite.findall("testcase/skipped"))))
@@ -104,9 +110,10 @@ def draw(record: Path, events: int = EVENTS) -> Path | None:
     page = record.with_suffix(".html")
     words = [str(ROOT / "tools/nicview"), str(record), "--limit", str(events), "-o", str(page)]
     with telling(lambda: f"drawing the end of {record.name}, {megabytes(record)} MB, as {page.name}"):
-        ran = subprocess.run(words, capture_output=True, text=True, check=False)
-    if ran.returncode > 1:
-        page.with_suffix(".txt").write_text(ran.stderr)
+        process = started(words, stdout=subprocess.DEVNULL, stderr=subprocess.PIPE)
+        _, said = process.communicate()
+    if process.returncode not in (0, 1):
+        page.with_suffix(".txt").write_bytes(said)
         return None
     return page
 
@@ -147,6 +154,13 @@ class Lines:
             for line in lines:
                 self.read += len(line)
                 yield line
+
+
+def keep_console(it: Outcome, is_again: bool, out: Path) -> None:
+    """Writes the end of a seed's console, so that a passing seed also shows what ran."""
+    out.mkdir(exist_ok=True)
+    name = f"{it.kernel}-{it.driver}-{it.seed}{'.again' if is_again else ''}.txt"
+    (out / name).write_text("\n".join(it.lines[-CONSOLE_LINES:]) + "\n")
 
 
 def keep_failure(it: Outcome, workload: str, out: Path) -> Path:

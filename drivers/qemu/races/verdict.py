@@ -21,6 +21,7 @@ KINDS = {
     "boot": "the guest didn't boot, or its driver had no interface",
     "lockup": "a processor looped in the kernel",
     "stall": "the kernel reported an RCU stall",
+    "memory": "the guest ran out of memory",
     "kernel": "the kernel reported a BUG, an oops or a warning",
     "hung task": "a process hung in the kernel",
     "stuck": "the guest's script hung",
@@ -29,6 +30,7 @@ KINDS = {
     "no answer": "no echo reply arrived at the end",
     "frames": "frames were lost or changed after the traffic stopped",
     "changed": "the card sent a frame that it hadn't been given",
+    "can't run": "the reporter's script can't run in the guest: status 126, 127, or 2 after a syntax error",
     "script": "the reporter's script reported a problem, or exceeded its time limit",
     "driver": "the driver reported that the card didn't do what was expected",
     "reset": "registers were written while the card was being reset",
@@ -36,30 +38,36 @@ KINDS = {
     "tail off": "the tail of a disabled ring was moved",
     "fault": "the device met a fault",
     "refused": "the server refused an access for another reason",
-    "not tried": "the reporter's script reported that its test can't be run here",
+    "not tried": "the reporter's script can't be tried in this guest: status 125",
     "slow": "a processor or a process was stuck for seconds, and recovered",
 }
 FATAL = frozenset(list(KINDS)[: list(KINDS).index("frames") + 1])
 # Findings that aren't failures, by driver. A busy machine causes them too. A reset by the PF's driver causes them in
 # virtual functions, which don't know of the reset before they are notified.
 NOTES = {
-    "ixgbe": frozenset(["slow", "not tried"]),
-    "ixgbevf": frozenset(["slow", "not tried", "driver", "reset", "tail outside", "tail off"]),
+    "ixgbe": frozenset(["slow", "not tried", "can't run"]),
+    "ixgbevf": frozenset(["slow", "not tried", "can't run", "driver", "reset", "tail outside", "tail off"]),
 }
+# Findings that say nothing about the driver. A seed with one of these, and without a failure, is skipped.
+SKIPS = ("can't run", "not tried")
 
 SPOKEN: Sequence[tuple[str, str]] = (
     ("lockup", r"BUG: soft lockup|hard LOCKUP"),
     ("stall", r"rcu: INFO: .* (self-)?detected (expedited )?stall|rcu_\w+ kthread starved"),
     ("hung unit", r"Detected Tx Unit Hang|NETDEV WATCHDOG|transmit queue \d+ timed out"),
     ("hung task", r"INFO: task \S+ blocked for more than"),
+    ("memory", r"page allocation failure|Out of memory|oom-kill:|invoked oom-killer"),
     ("kernel", r"\bBUG:(?! soft lockup)|Oops|general protection|Kernel panic|WARNING: (CPU|.* at )|UBSAN|KASAN"
                r"|WARNING: (possible|inconsistent|suspicious|bad unlock|nested lock)|INFO: possible|kmemleak: \d+ new"
-               r"|refcount_t|list_(add|del) corruption|page allocation failure|DMA-API"),
+               r"|refcount_t|list_(add|del) corruption|DMA-API"),
     ("driver", r"within the polling period|Could not enable|Hardware Error|Adapter removed|[Rr]eset polling failed"
                r"|not cleared|Failed to|PF still (resetting|in reset)"),
 )  # fmt: skip
 SCRIPT = "script: "  # prefix of each line that the reporter's script prints
-FINE, WRONG, UNTRIED, KILLED = 0, 1, 125, 137  # statuses of the script; the last one means that the script was killed
+FINE, UNTRIED, KILLED = 0, 125, 137  # statuses of the script; the last one means that the script was killed
+UNRUN = {126: "a file can't be executed", 127: "a command wasn't found"}
+UNPARSED, SYNTAX = 2, re.compile(r": (line \d+: )?syntax error")  # status and message of busybox's sh
+MORE_MEMORY = "; give the guest more with --memory"
 RIP = re.compile(r"RIP: \S*?:?([A-Za-z_]\w*)\+0x")
 WARNED = re.compile(r"WARNING: CPU.* at (\S+)|WARNING: (\S+) at (\S+)")
 COUNTED = {
@@ -85,6 +93,7 @@ def spoken(lines: Sequence[str]) -> Iterator[Finding]:
             continue
         text = without_time(lines[at])
         where = next((found[1] for line in lines[at : at + 25] if (found := RIP.search(line))), None)
+        text += MORE_MEMORY if kind == "memory" else ""
         yield Finding(kind, f"{text}, in {where}" if where and kind in ("lockup", "kernel", "stall") else text)
 
 
@@ -103,16 +112,20 @@ def counted(before: Mapping[str, int], after: Mapping[str, int]) -> Iterator[Fin
             yield Finding(kind, f"{many} times: {KINDS[kind]}")
 
 
-def scripted(lines: Sequence[str], limit: int) -> Iterator[Finding]:
-    """Yields findings from the reporter's script, for each round."""
+def scripted(lines: Sequence[str], limit: int, name: str) -> Iterator[Finding]:
+    """Yields findings from the reporter's script, the file `name`, for each round."""
     found = {int(it[1]): int(it[2]) for line in lines if (it := re.fullmatch(r"@search script (\d+) (\d+)", line))}
     spoke = [it.removeprefix(SCRIPT) for it in lines if it.startswith(SCRIPT)]
-    last = f"; last: {spoke[-1]}" if spoke else ""
+    last = f"; last line: {spoke[-1]}" if spoke else ""
+    is_unparsed = any(SYNTAX.search(it) for it in spoke)
     for number, status in found.items():
+        said = f"{name} exited with status {status}"
         if status == UNTRIED:
-            yield Finding("not tried", f"round {number}: {KINDS['not tried']}{last}")
+            yield Finding("not tried", f"round {number}: {said}{last}")
+        elif status in UNRUN or (status == UNPARSED and is_unparsed):
+            yield Finding("can't run", f"round {number}: {said}: {UNRUN.get(status, 'a syntax error')}{last}")
         elif status != FINE:
-            said = {WRONG: "wrong", KILLED: f"not finished in {limit} s"}.get(status, f"status {status}")
+            said = f"{name} didn't finish in {limit} s" if status == KILLED else said
             yield Finding("script", f"round {number}: {said}{last}")
 
 

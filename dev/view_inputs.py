@@ -107,6 +107,7 @@ USES = [
     (["niclint", "-"], "nope\n" * 150, 2, "-: further lines may be refused; only the first 100 refusals are shown"),
     (["niclint", "-"], "#: nic vfs 2 fifo 64 blocks 256\nw x\nrx\nrz\n", 2, "-:4: this line of a recording"),
     (["niclint", "-"], "w 0x10140 1\n", 1, "0x10140 is SWSM, which the bench doesn't model"),
+    (["niclint", "-"], "w 0x4c 1\n", 1, "0x0004c is TCPTIMER, which the bench doesn't model"),
     (["niclint", "-"], "w RDT[1] 1\nw RXDCTL[1] 0x02000000\n", 1, "RDT[1] is written before RXDCTL[1].ENABLE reads 1"),
     (["niclint", "-"], "w EIMS 0x100000\n", 1, "IVAR_MISC assigns no vector"),
     (["niclint", "-"], "#: nic vfs 2 fifo 64 blocks 256\nvr 1 0x0 # 0\n", 0, "1 instructions, no warnings"),

@@ -11,6 +11,7 @@ import email
 import gzip
 import io
 import os
+import random
 import signal
 import struct
 import subprocess
@@ -199,6 +200,22 @@ def unfit(check: Callable[..., object], *words: object) -> str:
     return ""
 
 
+def damaged(folder: Path) -> None:
+    """Checks that a kernel or a module that was cut off or altered at random is accepted or refused, but never ends the
+    search."""
+    chance, image = random.Random(1), folder / "damaged"
+    for whole in (bzimage("6.1.7-mine"), elf(18), elf(18).replace(b"ELF\x02", b"ELF\x01")):
+        for _ in range(200):
+            data = bytearray(whole[: chance.randrange(len(whole) + 1)] if chance.random() < 0.5 else whole)
+            for _ in range(chance.randrange(4) if data else 0):
+                data[chance.randrange(min(len(data), 128))] = chance.choice((0, 1, 0x7F, 0xFF))
+            image.write_bytes(data)
+            unfit(kernel_version, image)
+    for suffix, data in ((".xz", b"\xfd7zXZ\0"), (".gz", b"\x1f\x8b\x08\0" + bytes(20)), (".xz", b"")):
+        (folder / f"ixgbe.ko{suffix}").write_bytes(data)
+        assert "can't be read or decompressed" in unfit(check_module, folder / f"ixgbe.ko{suffix}", "6.1")
+
+
 def images(folder: Path) -> None:
     """Checks which kernels and modules are refused before a guest boots."""
     image, at = folder / "bzImage", folder / "lib/6.1"
@@ -212,6 +229,7 @@ def images(folder: Path) -> None:
     for data, version in ((bzimage("6.1.7-mine"), "6.1.7-mine"), (elf(18), "6.2")):
         image.write_bytes(data)
         assert kernel_version(image) == version, kernel_version(image)
+    damaged(folder)
     file = module(at, "6.1")
     assert not unfit(check_modules, at, "6.1") and not unfit(check_modules, at, None)
     assert unfit(check_modules, at, "6.2").endswith("are of 6.1, but the kernel is 6.2")

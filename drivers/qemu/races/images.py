@@ -3,10 +3,12 @@ driver, so it must not look like a guest that doesn't boot."""
 
 from __future__ import annotations
 
+import lzma
 import re
 import struct
 import subprocess
 import sys
+import zlib
 from pathlib import Path
 
 HERE = Path(__file__).resolve().parent
@@ -23,7 +25,13 @@ class Unfit(Exception):
 
 def kernel_version(image: Path) -> str | None:
     """Returns the version of an x86 kernel that QEMU can boot, or None if the image doesn't name it."""
-    data = image.read_bytes()
+    try:
+        return version_in(image, image.read_bytes())
+    except struct.error as fault:
+        raise Unfit(f"{image} is incomplete: its headers refer to places after its end") from fault
+
+
+def version_in(image: Path, data: bytes) -> str | None:
     if data[:4] == b"\x7fELF":
         return elf_version(image, data)
     if data[0x202:0x206] == b"HdrS":
@@ -61,7 +69,7 @@ def has_pvh(data: bytes) -> bool:
     wide = data[4] == 2
     (first,) = struct.unpack_from("<Q" if wide else "<I", data, 32 if wide else 28)
     size, count = struct.unpack_from("<HH", data, 54 if wide else 42)
-    for at in range(first, first + size * count, size):
+    for at in (first + size * k for k in range(count)):
         kind = struct.unpack_from("<I", data, at)[0]
         offset, length = (struct.unpack_from("<Q", data, at + it)[0] for it in (8, 32)) if wide else (
             struct.unpack_from("<I", data, at + it)[0] for it in (4, 16))  # fmt: skip
@@ -73,7 +81,11 @@ def has_pvh(data: bytes) -> bool:
 
 def magic(module: Path) -> list[str]:
     """Returns the words of a module's vermagic; the first is the kernel's version."""
-    found = re.search(rb"\0vermagic=([^\0]*)\0", UNPACK.get(module.suffix, bytes)(module.read_bytes()))
+    try:
+        data = UNPACK.get(module.suffix, bytes)(module.read_bytes())
+    except (EOFError, OSError, lzma.LZMAError, zlib.error) as fault:
+        raise Unfit(f"{module} can't be read or decompressed: {fault}") from fault
+    found = re.search(rb"\0vermagic=([^\0]*)\0", data)
     return found[1].decode("latin-1").split() if found else []
 
 

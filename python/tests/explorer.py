@@ -199,6 +199,16 @@ class Traced(Scenario):
         return None
 
 
+class Slow(Traced):
+    """Takes so long for all its schedules, on any machine, that a time limit ends the search first."""
+
+    name = "slow"
+
+    def end(self) -> str | None:
+        time.sleep(0.01)
+        return super().end()
+
+
 BOUNDS = 3
 
 
@@ -567,10 +577,23 @@ class Failures(unittest.TestCase):
         self.assertEqual(search(Fixed(), 20).never, [])
 
     def test_seconds(self) -> None:
-        """A search ends at its time limit with any strategy. Without that limit, it completes its runs."""
-        for words in ({}, {"strategy": "exhaustive", "preemptions": 1_000}, {"jobs": 2}):
-            self.assertGreater(search(Fixed(), None, seconds=0.3, **words).distinct, 0, words)
-        self.assertEqual(search(Fixed(), 20, seconds=1_000_000).distinct, search(Fixed(), 20).distinct)
+        """A search ends at its time limit with any strategy, but each process runs at least one schedule. Without that
+        limit, it completes its runs."""
+        ways = ({"strategy": "random"}, {"strategy": "exhaustive", "preemptions": 1_000}, {"jobs": 2})
+        most, few = 1_500, 20
+        with tempfile.TemporaryDirectory() as folder:
+            path = Path(folder) / "traces"
+            slow = Slow(path)
+            for words in ways:
+                for seconds in (0.3, 1e-6):  # (even if the machine takes longer than this to start a process)
+                    path.write_text("")
+                    report = search(slow, None if "preemptions" in words else most, seconds=seconds, **words)
+                    self.assertGreater(report.distinct, 0, words)
+                    self.assertLess(len(path.read_text().splitlines()), most, words)
+            path.write_text("")
+            search(slow, few, strategy="random", seconds=1_000_000)
+            self.assertEqual(len(path.read_text().splitlines()), few)
+        self.assertEqual(search(Fixed(), few, seconds=1_000_000).distinct, search(Fixed(), few).distinct)
 
     def test_cycle(self) -> None:
         with tempfile.TemporaryDirectory() as folder:

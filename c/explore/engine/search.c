@@ -157,6 +157,13 @@ static const struct strategy_row *row_of(const struct options *options, uint64_t
     return row;
 }
 
+/* Whether the time is up. Each process first runs a schedule, however late it starts: a search that ran none would look
+   like one that found nothing. */
+static bool is_stopped(const struct job *job, const struct post *post)
+{
+    return job->common->stop && post->runs;
+}
+
 static bool needs_length(const struct options *options)
 {
     return options->strategy == MIXED || row_of(options, 0)->needs_length;
@@ -174,7 +181,7 @@ static void search_by_chance(struct post *post, const struct job *job)
     uint64_t step = (uint64_t)options->jobs * options->shards;
     uint64_t run = options->first + (uint64_t)job->number * options->shards + options->shard;
     for (; run < end; run += step) {
-        if (job->common->stop || run > job->common->lowest)
+        if (is_stopped(job, post) || run > job->common->lowest)
             return;
         const struct strategy_row *row = row_of(options, run);
         const struct turn turn = {options, run, run / STRATEGIES, length};
@@ -261,7 +268,7 @@ static bool search_within(struct post *post, const struct job *job, uint32_t pre
     struct parts *parts = &job->common->parts[number];
     struct exhaustive *state = nicxi_exhaustive(preemptions, !job->options->no_sleep, parts, &post->run);
     while (state && nicxi_exhaustive_next(state)) {
-        if (job->common->stop || post->run > job->common->lowest || is_spent(job, post)) {
+        if (is_stopped(job, post) || post->run > job->common->lowest || is_spent(job, post)) {
             nicxi_free_exhaustive(state);
             return false;
         }

@@ -108,6 +108,17 @@ class Faulty(Scenario):
         while True:
             pass
 
+    def do_stop(self) -> None:
+        """Stops the whole process for three seconds, as a machine that is given no CPU."""
+        words = ["sh", "-c", 'sleep 3; kill -s CONT "$0"', str(os.getpid())]
+        with subprocess.Popen(words):
+            os.kill(os.getpid(), signal.SIGSTOP)
+
+    def do_signals(self) -> None:
+        for _ in range(20):
+            os.kill(os.getpid(), signal.SIGUSR1)
+            time.sleep(0.01)
+
     def do_add(self) -> None:
         seen = self.count
         self.point()
@@ -575,6 +586,26 @@ class Failures(unittest.TestCase):
                 result = replay(Faulty("hang"), path, 1)
                 self.assertEqual((result.outcome, result.words), ("hang", "t0 runs without reaching a point"))
         self.assertEqual(search(Fixed(), 20).never, [])
+
+    def test_stopped(self) -> None:
+        """A schedule isn't taken for one that hangs because its process is stopped for longer than the limit."""
+        class Stopped(Faulty):
+            def begin(self) -> None:
+                self.do_stop()
+                super().begin()
+
+        self.assertEqual(search(Stopped("point"), 1, strategy="random", hang=1).distinct, 1)
+        with Search(Faulty("stop point"), hang=1) as searching:
+            self.assertEqual(searching.run(lambda can: can[0]).outcome, "fine")
+
+    def test_interrupted_often(self) -> None:
+        """A schedule isn't taken for one that hangs because signals interrupt its process often."""
+        former = signal.signal(signal.SIGUSR1, lambda _signal, _frame: None)
+        try:
+            with Search(Faulty("signals"), hang=2) as searching:
+                self.assertEqual(searching.run(lambda can: can[0]).outcome, "fine")
+        finally:
+            signal.signal(signal.SIGUSR1, former)
 
     def test_seconds(self) -> None:
         """A search ends at its time limit with any strategy, but each process runs at least one schedule. Without that

@@ -16,6 +16,8 @@
 #include <sys/wait.h>
 #include <unistd.h>
 
+#include "search.h"
+
 /* Exit statuses of a child: a task reached no point; a task waits for a lock that the explorer doesn't control; a
    thread that isn't a task made a call. */
 enum { HUNG = 77, LOCKED_UP = 78, FOREIGN = 79 };
@@ -61,8 +63,11 @@ void nicxi_note_in(struct post *post)
 
 /* --- hanging tasks --- */
 
+enum { MOST_ODD_TICKS = 60 };
+
 static struct post *watched;
-static uint32_t seconds_left, seconds_given;
+static uint32_t seconds_left, seconds_given, odd_ticks;
+static double ticked_at;
 
 /* Whether the signal interrupted a wait for a lock that the explorer doesn't control: then the next instruction repeats
    the futex system call. */
@@ -82,15 +87,29 @@ static bool is_locked_up(const void *context)
 #endif
 }
 
+/* Whether this tick comes about a second after the last one. If not, the process was stopped or was given no CPU for a
+   while, so that no point was reached proves nothing. On a machine where ticks are seldom in time, they count anyway. */
+static bool is_in_time(void)
+{
+    double now = nicxi_now(), since = now - ticked_at;
+    ticked_at = now;
+    odd_ticks = since > 0.5 && since < 1.5 ? 0 : odd_ticks + 1;
+    return odd_ticks == 0 || odd_ticks > MOST_ODD_TICKS;
+}
+
 static void tick(int number, siginfo_t *info, void *context)
 {
     static uint64_t seen[2];
     uint64_t now[2] = {watched->runs, watched->at};
+    bool in_time = is_in_time();
     (void)number;
     (void)info;
     if (memcmp(seen, now, sizeof now) != 0) {
         memcpy(seen, now, sizeof now);
         seconds_left = seconds_given;
+        odd_ticks = 0;
+    } else if (!in_time) {
+        return;
     } else if (is_locked_up(context) && nicxi.phase == RUNNING) {
         _exit(LOCKED_UP);
     } else if (--seconds_left == 0) {
@@ -107,6 +126,8 @@ static void watch(struct post *post, uint32_t hang)
     action.sa_flags = SA_RESTART | SA_SIGINFO;
     watched = post;
     seconds_left = seconds_given = hang;
+    odd_ticks = 0;
+    ticked_at = nicxi_now();
     sigaction(SIGALRM, &action, NULL);
     setitimer(ITIMER_REAL, &each, NULL);
 }

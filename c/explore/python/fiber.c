@@ -18,9 +18,12 @@
 
 #include "../engine/engine.h"
 #include "../engine/heap.h"
+#include "../engine/search.h"
 #include "python.h"
 
-enum { LEAST_ROOM = 4 << 20, MOST_CALLS_ON = 100, SECOND = 1000 };
+enum { LEAST_ROOM = 4 << 20, MOST_CALLS_ON = 100, SLICE = 100 };
+
+#define MOST_TOOK (1.5e-3 * SLICE)
 
 struct host {
     struct fiber *fiber;
@@ -126,15 +129,19 @@ static void take_over(void)
     nicxi_heap_is_mine();
 }
 
-/* Waits until the main thread may have its turn. Returns false if the running thread hangs. */
+/* Waits until the main thread may have its turn. Returns false if the running thread hangs. Waiting takes longer than a
+   slice if the process is stopped, and less if a signal interrupts it; neither must make a hang. */
 static bool comes(void)
 {
     struct pollfd turn = {.fd = outside.turn, .events = POLLIN};
-    uint32_t points = *nicxi.points, seconds = 0;
+    uint32_t points = *nicxi.points;
+    double seconds = 0;
     while (seconds < nicp_hang) {
-        if (poll(&turn, 1, SECOND) == 1)
+        double began = nicxi_now();
+        if (poll(&turn, 1, SLICE) == 1)
             return true;
-        seconds = points == *nicxi.points ? seconds + 1 : 0;
+        double took = nicxi_now() - began;
+        seconds = points == *nicxi.points ? seconds + (took < MOST_TOOK ? took : MOST_TOOK) : 0;
         points = *nicxi.points;
     }
     return !nicp_hang;

@@ -1034,7 +1034,7 @@ def check_own_memory(kit: Kit) -> str:
     """Stores to the driver's own memory may be late. Litmus tests pass. Without a full barrier, a queue stays stopped
     forever: the search finds this, and the shrunk schedule reproduces it. With the barrier, nothing is found."""
     out, source = kit.out("own"), HERE / "tests/stop_wake.c"
-    said = ran([kit.build_form(HERE / "tests/litmus.c", of_memory=True)], timeout=300).strip()
+    said = ran([kit.build_form(HERE / "tests/litmus.c", of_memory=True)], timeout=HANGS).strip()
     wrong, right = (kit.build_form(source, *defines, of_memory=True) for defines in ([], ["FIXED"]))
     schedule = out / "stop_wake.schedule"
     for mode in ("flags", "release", "lent"):

@@ -115,9 +115,9 @@ class Faulty(Scenario):
             os.kill(os.getpid(), signal.SIGSTOP)
 
     def do_signals(self) -> None:
-        for _ in range(20):
+        for _ in range(200):
             os.kill(os.getpid(), signal.SIGUSR1)
-            time.sleep(0.01)
+            time.sleep(0.001)
 
     def do_add(self) -> None:
         seen = self.count
@@ -317,7 +317,7 @@ class Found(unittest.TestCase):
             time.sleep(0.3)
             os.killpg(made.pid, signal.SIGINT)
             try:
-                output = made.communicate(timeout=60)[1]  # ends when every process has closed its standard error
+                output = made.communicate(timeout=600)[1]  # ends when every process has closed its standard error
             except subprocess.TimeoutExpired:
                 os.killpg(made.pid, signal.SIGKILL)
                 raise
@@ -602,7 +602,7 @@ class Failures(unittest.TestCase):
         """A schedule isn't taken for one that hangs because signals interrupt its process often."""
         former = signal.signal(signal.SIGUSR1, lambda _signal, _frame: None)
         try:
-            with Search(Faulty("signals"), hang=2) as searching:
+            with Search(Faulty("signals"), hang=100) as searching:
                 self.assertEqual(searching.run(lambda can: can[0]).outcome, "fine")
         finally:
             signal.signal(signal.SIGUSR1, former)

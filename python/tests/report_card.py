@@ -24,6 +24,8 @@ from nic82599.drive.row import checked, driver_of, load, program
 
 HERE = Path(__file__).resolve().parent
 SMALL = HERE.parent / "examples/small.py"
+# On a busy machine, rows still run all requested schedules and report no hang.
+PATIENT = ["--seconds", "1800", "--hang", "600"]
 
 # The entry in the card's list for a missing function; no row needs only `rearm` or `thread`.
 LACKS = {
@@ -237,7 +239,7 @@ class Command(unittest.TestCase):
             self.skipTest("the command needs a clone")
         how = {**os.environ, "PYTHONPATH": str(HERE.parent)}
         with tempfile.TemporaryDirectory() as folder:
-            rows = ["--rows", "receive-one", "--runs", "10", "--every", "10", "--no-pages", "-o", folder]
+            rows = ["--rows", "receive-one", "--runs", "10", "--every", "10", "--no-pages", *PATIENT, "-o", folder]
             driver = f"{HERE / 'card_drivers.py'}:ActsOnTheTerminal"
             words = [sys.executable, "-P", "-m", "nic82599.drive", driver, *rows]
             made = subprocess.run(words, env=how, capture_output=True, text=True, check=False)
@@ -256,9 +258,8 @@ class Command(unittest.TestCase):
                 listing = Path(folder) / "processes"
                 listing.touch()
                 how = {**os.environ, "PYTHONPATH": str(HERE.parent), "PROCESSES": str(listing)}
-                rows = ["--rows", "receive-one", "--runs", "10", "--every", "10", "--no-pages", "-o", folder]
+                rows = ["--rows", "receive-one", "--runs", "10", "--every", "10", "--no-pages", *PATIENT, "-o", folder]
                 words = [sys.executable, "-P", "-m", "nic82599.drive", f"{HERE / 'card_drivers.py'}:{name}", *rows]
-                words += ["--hang", "600"]  # each of these drivers waits until its child process is running
                 made = subprocess.run(words, env=how, capture_output=True, text=True, timeout=3600, check=False)
                 self.assertIn(f"{drivers.Both.name}: 1 passed, 0 failed", made.stdout, made.stderr)
                 processes = [int(it) for it in listing.read_text().split()]
@@ -267,7 +268,7 @@ class Command(unittest.TestCase):
 
     def test_a_card(self) -> None:
         how = {**os.environ, "PYTHONPATH": str(HERE.parent)}
-        rows = ["--rows", "receive-one,send-one,open-close", "--runs", "50", "--every", "50", "--no-pages"]
+        rows = ["--rows", "receive-one,send-one,open-close", "--runs", "50", "--every", "50", "--no-pages", *PATIENT]
         if places.clone() is None:
             self.skipTest("the command needs a clone")
         with tempfile.TemporaryDirectory() as folder:

@@ -363,7 +363,7 @@ sys.path.insert(0, sys.argv[1])
 import main
 from guests import started
 def attempt(self, task, bench):
-    guest = started(["sleep", "60"])
+    guest = started(["sleep", "600"])
     print("boots", flush=True)
     guest.wait()
     return main.Outcome("k", "ixgbe", task.seed, [main.Finding("boot", "")], 0, 1.0), None
@@ -384,7 +384,7 @@ def interruptions(folder: Path) -> None:
         assert search.stdout and "1 guest at a time tries 2 seeds" in search.stdout.readline()
         assert search.stdout.readline() == "boots\n"
         search.send_signal(number)
-        output, said = search.communicate(timeout=30)
+        output, said = search.communicate(timeout=300)
         assert said == "drivers/qemu/search: interrupted; the guests were stopped\n" and not output, (said, output)
         assert search.returncode == 128 + number and not list(place.iterdir()), (search.returncode, place)
 

@@ -18,7 +18,7 @@ const char nicxi_usage[] =
     "scenario or a schedule file can't be used; 3: with --strict, part of the scenario never ran.\n"
     "  --strategy NAME    random, priorities, exhaustive, or mixed: random and priorities alternately (mixed)\n"
     "  --runs N           at most N schedules (10,000; for the exhaustive search, all)\n"
-    "  --seconds S        at most S seconds\n"
+    "  --seconds S        at most S seconds, but at least one schedule in each process\n"
     "  --seed N           seed for the random choices (1)\n"
     "  --first N          number of the first run (0); with --runs 1, repeats that run alone\n"
     "  --depth D          for priorities: they change at D - 1 points, D from 1 to 16 (3; for mixed, 2 to 6 in turn)\n"

@@ -393,7 +393,10 @@ def check_second_delivery(kit: Kit) -> str:
 def check_every(kit: Kit) -> str:
     """A row whose schedules with at most one preemption were all run doesn't claim to have run all schedules."""
     program = kit.build(HERE / "corpus/driver.c")
-    row = kit.card(program, 0, "--rows", "receive-empty", "--runs", 5, "--every", 100_000)["receive-empty"]
+    for _ in range(20):  # the time limit of this search is fixed, and a busy machine may exceed it
+        row = kit.card(program, 0, "--rows", "receive-empty", "--runs", 5, "--every", 100_000)["receive-empty"]
+        if row["state"] != "passed" or row["every"] >= 0:
+            break
     if row["state"] != "passed" or row["every"] != 1:
         raise Wrong(f"receive-empty is {row['state']} with `every` {row['every']}, not 1")
     return "schedules with one preemption aren't all schedules"

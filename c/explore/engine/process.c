@@ -87,8 +87,8 @@ static bool is_locked_up(const void *context)
 #endif
 }
 
-/* Whether this tick comes about a second after the last one. If not, the process was stopped or was given no CPU for a
-   while, so that no point was reached proves nothing. On a machine where ticks are seldom in time, they count anyway. */
+/* Whether this tick comes about a second after the last one. If not, the process was stopped or was given no CPU in
+   between, so that it reached no point proves nothing. If ticks are seldom in time, they count anyway. */
 static bool is_in_time(void)
 {
     double now = nicxi_now(), since = now - ticked_at;

@@ -75,13 +75,18 @@ FIGURES = [
 ]
 
 
+def built(place: Place, name: str) -> Path:
+    """Returns the path of a program that `make -C c/vfio-user measure` builds."""
+    return place.program.parent / "vfio-user" / name
+
+
 class OtherEnd:
     """The program at the other end of the cable. It accepts the same requests as the server's control socket."""
 
     def __init__(self, place: Place) -> None:
         self.folder = Path(tempfile.mkdtemp(prefix="other.", dir=place.folder))
         self.path = self.folder / "wire"
-        self.process = started([place.out / "other_end", str(self.path)], stdin=subprocess.PIPE, stdout=subprocess.PIPE)
+        self.process = started([built(place, "other_end"), str(self.path)], stdin=subprocess.PIPE, stdout=subprocess.PIPE)
 
     def ask(self, words: str) -> list[str]:
         assert self.process.stdin and self.process.stdout
@@ -225,8 +230,7 @@ def main(words: list[str]) -> int:
     print(row("---", ["---:"] * len(CARDS)))
     for number, figure in enumerate(FIGURES):
         print(row(f"{figure.name}, {figure.unit}", [shown(best[it.name][number]) for it in CARDS]))
-    print(subprocess.run([place.program.parent / "vfio-user/socket"], capture_output=True, text=True,
-                         check=True).stdout.strip())
+    print(subprocess.run([built(place, "socket")], capture_output=True, text=True, check=True).stdout.strip())
     return 0
 
 

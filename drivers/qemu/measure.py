@@ -86,7 +86,7 @@ class OtherEnd:
     def __init__(self, place: Place) -> None:
         self.folder = Path(tempfile.mkdtemp(prefix="other.", dir=place.folder))
         self.path = self.folder / "wire"
-        self.process = started([built(place, "other_end"), str(self.path)], stdin=subprocess.PIPE, stdout=subprocess.PIPE)
+        self.process = started([built(place, "other_end"), self.path], stdin=subprocess.PIPE, stdout=subprocess.PIPE)
 
     def ask(self, words: str) -> list[str]:
         assert self.process.stdin and self.process.stdout

@@ -1,5 +1,6 @@
-/* The other end of the cable, for any of QEMU's network cards. It listens on a UNIX socket in the format of -netdev
-   stream, replies to ARP and ping for 10.0.0.1, and builds and compares frames (c/bus/frames.h).
+/* The other end of the cable, for any of QEMU's network cards (drivers/qemu/run --measure). It listens on a UNIX socket
+   in the format of -netdev stream, replies to ARP and ping for 10.0.0.1, and builds and compares frames
+   (c/bus/frames.h).
 
      other_end SOCKET
 
@@ -37,6 +38,17 @@ static double now(void)
     return (double)time.tv_sec + (double)time.tv_nsec / 1e9;
 }
 
+/* Expects these frames from the card. All are built before the request is answered, so that the time for that isn't
+   measured. */
+static bool expect(unsigned int count, uint16_t most)
+{
+    first = last = 0;
+    if (!traffic_expect(&traffic, count, most, card))
+        return false;
+    traffic_prepare(&traffic, SIZE_MAX);
+    return true;
+}
+
 static void obey(const char *line)
 {
     unsigned int count, most;
@@ -44,9 +56,10 @@ static void obey(const char *line)
     if (sscanf(line, "frames %7u %5u", &count, &most) == 2 && most >= FRAME_MIN && most <= FRAME_JUMBO) {
         traffic_send(&traffic, count, (uint16_t)most);
     } else if (sscanf(line, "expect %7u %5u", &count, &most) == 2 && most >= FRAME_MIN && most <= FRAME_JUMBO) {
-        first = last = 0;
-        if (!traffic_expect(&traffic, count, (uint16_t)most, card))
+        if (!expect(count, (uint16_t)most)) {
             puts("error: out of memory");
+            return;
+        }
     } else if (strcmp(line, "came") == 0) {
         printf("%u of %u, twice %u, wrong %u, in %.6f s\n", expected->good, expected->count, expected->twice,
                expected->wrong, last - first);

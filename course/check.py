@@ -2,6 +2,8 @@
 compile and lose rows with named causes. `nicdrive --require` counts points and refuses malformed lists. The pages state
 the lists' totals, `course/mark` hides the answers from hand-ins, and the students' page works in a student's copy.
 `c/test` calls these checks.
+
+    python3 course/check.py     checks only the totals; status 0: they agree; 1: a line for each that differs
 """
 
 from __future__ import annotations
@@ -18,7 +20,9 @@ from dataclasses import dataclass
 from importlib.machinery import SourceFileLoader
 from importlib.util import module_from_spec, spec_from_loader
 from pathlib import Path
+from types import ModuleType
 
+sys.dont_write_bytecode = True
 HERE = Path(__file__).resolve().parent
 ROOT = HERE.parent
 sys.path += [str(ROOT / "c"), str(ROOT / "dev")]
@@ -263,6 +267,9 @@ IGNORED = {
     "empty": (["notes.txt"], "it contains no driver"),
     "two": (["a.c", "b.PY"], "it contains 2 drivers, and must contain one: a.c, b.PY"),
     "both": (["driver.c", "main.rs", "other.c"], "it contains 2 drivers, and must contain one: driver.c, main.rs"),
+    "._ada.c": ([""], "it is hidden"),
+    "points.csv.new": (["driver.c"], "rename it: the names points.csv, "),
+    "settings.txt": (["driver.c"], "rename it: the names points.csv, "),
 }
 
 
@@ -307,10 +314,25 @@ def check_help() -> None:
         printed = ran([sys.executable, HERE / name, "--help"], 0)
         if missing := [it for it in values if not re.search(rf"^{it}( \(.*\))?: \w", printed.replace("--", ""), re.M)]:
             raise Wrong(f"course/{name} --help lacks {', '.join(missing)}:\n{printed}")
-        ran([sys.executable, HERE / name], 2)
+        last = ran([sys.executable, HERE / name], 2).splitlines()[-1]
+        if not last.startswith(f"course/{name}: "):
+            raise Wrong(f"course/{name} without arguments: its last line doesn't say what is wrong: {last}")
 
 
-def check_notes(_kit: Kit) -> str:
+def check_refused(mark: ModuleType, folder: Path) -> None:
+    """Checks that course/mark refuses a wrong option and a wrong list before it marks anything, and says why."""
+    path = folder / "wrong.rows"
+    path.write_text("receive-one\nreceive-on\n")
+    mark.MILESTONES = [path]
+    for words, wanted in (([], f"{path}:2: unknown row: "), (["--runs"], "argument --runs: ")):
+        if wanted not in (made := mark.refused(words)):
+            raise Wrong(f'course/mark {words} with a wrong list: the reason is "{made}", not "{wanted}"')
+    mark.MILESTONES = MILESTONES
+    if made := mark.refused([]):
+        raise Wrong(f"course/mark refuses the lists: {made}")
+
+
+def check_notes(kit: Kit) -> str:
     """Checks the notes of course/mark: why a driver has no points, and how many of its rows hung."""
     loader = SourceFileLoader("course_mark", str(HERE / "mark"))
     spec = spec_from_loader(loader.name, loader)
@@ -334,6 +356,7 @@ def check_notes(_kit: Kit) -> str:
         if not made.startswith(wanted) or bool(made) != bool(wanted):
             raise Wrong(f"course/mark: {ending} and {printed!r}: the note is {made!r}, not {wanted!r}")
     check_help()
+    check_refused(mark, kit.folder)
     return f"{len(cases)} notes"
 
 
@@ -363,18 +386,25 @@ def total(path: Path) -> int:
     return sum(int(it or 1) for it in lines)
 
 
-def check_totals(_kit: Kit) -> str:
-    """Checks that the pages and the lists' first lines state the totals of the lists."""
-    totals = {path: total(path) for path in MILESTONES}
+def wrong_totals() -> list[str]:
+    """Returns where the pages or the lists' first lines state another total than the lists have."""
+    totals, found = {path: total(path) for path in MILESTONES}, []
     students, teachers = ((HERE / name).read_text() for name in ("README.md", "TEACHERS.md"))
     for path, most in totals.items():
         if f"\n| [{path.stem}](milestones/{path.name}) | {most} | " not in students:
-            raise Wrong(f"course/README.md: the list {path.name} has {most} points, but the table doesn't say so")
+            found.append(f"course/README.md: the list {path.name} has {most} points, but the table doesn't say so")
         if not path.read_text().partition("\n")[0].endswith(f" {most} points."):
-            raise Wrong(f"course/milestones/{path.name}:1: the list has {most} points, but its comment doesn't say so")
+            found.append(f"course/milestones/{path.name}:1: the list has {most} points, but its comment doesn't say so")
     if f"with points, {sum(totals.values())} in all" not in teachers:
-        raise Wrong(f"course/TEACHERS.md: the lists have {sum(totals.values())} points, but the page doesn't say so")
-    return f"{sum(totals.values())} points"
+        found.append(f"course/TEACHERS.md: the lists have {sum(totals.values())} points, but the page doesn't say so")
+    return found
+
+
+def check_totals(_kit: Kit) -> str:
+    """Checks that the pages and the lists' first lines state the totals of the lists."""
+    if found := wrong_totals():
+        raise Wrong("\n".join(found))
+    return f"{sum(map(total, MILESTONES))} points"
 
 
 def check_barriers(kit: Kit) -> str:
@@ -433,3 +463,9 @@ def check_copy(kit: Kit) -> str:
 def check_all(kit: Kit) -> list[str]:
     checks = (check_totals, check_refusals, check_points, check_stages, check_barriers)
     return [check(kit) for check in (*checks, check_python, check_rust, check_notes, check_mark, check_copy)]
+
+
+if __name__ == "__main__":
+    faults = wrong_totals()
+    print(*(faults or [f"the pages and lists agree: {sum(map(total, MILESTONES))} points"]), sep="\n")
+    sys.exit(1 if faults else 0)

@@ -141,8 +141,10 @@ def environment(job: Job, folder: Path) -> dict[str, str]:
 
 def run_pieces(job: Job, pieces: list[str], folder: Path) -> None:
     """Runs commands of a job. Raises Wrong if one fails."""
+    # (in a container, GitHub's runner uses sh; GitLab's uses bash if the image contains it)
+    shell = ["sh", "-e", "-c"] if "github" in job.name else ["bash", "-e", "-o", "pipefail", "-c"]
     for piece in pieces:
-        words = ["bash", "-e", "-o", "pipefail", "-c", piece]
+        words = [*shell, piece]
         how = {"cwd": folder / "repository", "env": environment(job, folder), "capture_output": True, "text": True}
         made = subprocess.run(words, check=False, **how)
         if made.returncode:
@@ -183,6 +185,15 @@ def check_left(job: Job, folder: Path) -> None:
     summary = folder / "notes/summary"
     if "github" in job.name and not summary.exists():
         raise Wrong(f"{job.name}: no summary is shown")
+    if job.name == "github/report-card.yml":
+        check_summary(job.name, summary.read_text(), (folder / "repository/card/points.txt").read_text())
+
+
+def check_summary(name: str, summary: str, points: str) -> None:
+    """Checks that the summary, which is Markdown, contains the points as a block. Otherwise their lines could be
+    joined."""
+    if summary != f"```\n{points}```\n":
+        raise Wrong(f"{name}: the summary isn't a block with the points:\n{summary}")
 
 
 def check_container() -> None:

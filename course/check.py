@@ -348,8 +348,9 @@ def check_notes(kit: Kit) -> str:
         (".c", "signal 9", sums[:9]): "not marked: signal 9; see ",
         (".c", "status 2", "nicdrive: \x1b]0;title\n"): "not marked: ?]0;title; see ",
         (".c", "status 1", sums + row("receive-one", "check: hang")): "",
-        (".c", "status 1", sums + row("send-one", "hang: no result in 60 s")): "1 row hung: the machine may ",
-        (".c", "status 1", sums + row("send-one", "hang: a") + row("setup-crc", "hang: b")): "2 rows hung: ",
+        (".c", "status 1", sums + row("send-one", "hang: no result in 60 s")): "1 row hung (send-one): the machine ",
+        (".c", "status 1", sums + row("a", "hang: no") + row("b", "hang: no")): "2 rows hung (a, b): ",
+        (".c", "status 1", sums + "".join(row(it, "hang: a") for it in "abcd")): "4 rows hung (a, b, c, ..): ",
     }
     for (kind, ending, printed), wanted in cases.items():
         made = mark.line(mark.HandIn("ada", Path("ada"), kind), mark.Ended(ending, printed))[-1]

@@ -14,11 +14,11 @@ import contextlib
 import os
 import random
 import re
-import select
 import socket
 import subprocess
 import sys
 import tempfile
+import threading
 import time
 from collections.abc import Sequence
 from pathlib import Path
@@ -29,6 +29,7 @@ PROBING = 1.0  # seconds between the frames that find out whether the user's ker
 ON_THE_WAY = 32  # frames in flight: fewer than the kernel's ring has slots
 LATER = 200  # frames after the wire is plugged in again
 SHOWN = 15  # lines of the console that are printed after a failure
+KEPT = 1 << 20  # characters of the console that are kept at least
 OWN = bytes.fromhex("020000000001")
 USUAL = bytes.fromhex("020000008299")  # the card's address without --mac
 KIND = b"\x88\xb5"  # the frames' type, for local experiments
@@ -47,31 +48,50 @@ class Kernel:
         at = words.index("--") if "--" in words else len(words)
         line = [run, *words[:at], f"--server=--wire=listen:{wire}", *words[at:]]
         self.process = subprocess.Popen(line, stdin=subprocess.PIPE, stdout=subprocess.PIPE, bufsize=0)
-        self.text, self.at = "", 0
+        self.text, self.at, self.has_ended = "", 0, False
+        self.changed = threading.Condition()
+        threading.Thread(target=self.read_all, daemon=True).start()
 
-    def read(self, seconds: float) -> bool:
-        """Reads what is available or arrives within this many seconds. Returns false at the end of the output."""
+    def read_all(self) -> None:
+        """Reads the console until it ends. If nothing read it, a kernel that prints a lot would hang."""
         assert self.process.stdout
-        if not select.select([self.process.stdout], [], [], seconds)[0]:
-            return True
-        came = os.read(self.process.stdout.fileno(), 65536)
-        self.text += came.decode(errors="replace").replace("\r", "")
-        return bool(came)
+        while came := os.read(self.process.stdout.fileno(), 65536):
+            self.keep(came.decode(errors="replace").replace("\r", ""))
+        with self.changed:
+            self.has_ended = True
+            self.changed.notify_all()
+
+    def keep(self, text: str) -> None:
+        """Adds text to the console, and forgets the oldest if there is too much."""
+        with self.changed:
+            self.text += text
+            if (extra := len(self.text) - KEPT) > KEPT:
+                self.text, self.at = self.text[extra:], max(0, self.at - extra)
+            self.changed.notify_all()
 
     def wait_for(self, pattern: str, seconds: float = SECONDS) -> re.Match[str]:
         """Waits for a line that matches the pattern, after those already matched."""
         limit = time.monotonic() + seconds
-        while not (found := re.compile(pattern, re.MULTILINE).search(self.text, self.at)):
-            is_over = time.monotonic() > limit
-            if is_over or not self.read(1.0):
-                end = f"in {seconds:.0f} s" if is_over else "and ended"
-                raise Wrong(f"the kernel didn't print {pattern!r} {end}")
-        self.at = found.end()
-        return found
+        with self.changed:
+            while not (found := re.compile(pattern, re.MULTILINE).search(self.text, self.at)):
+                left = limit - time.monotonic()
+                if self.has_ended or left <= 0:
+                    end = "and ended" if self.has_ended else f"in {seconds:.0f} s"
+                    raise Wrong(f"the kernel didn't print {pattern!r} {end}")
+                self.changed.wait(left)
+            self.at = found.end()
+            return found
+
+    def skip(self) -> None:
+        """Treats all that the console has shown as matched."""
+        with self.changed:
+            self.at = len(self.text)
 
     def last_lines(self) -> str:
         """Returns the end of the console, without terminal control sequences."""
-        lines = re.sub(r"\x1b\[[0-9;?]*[A-Za-z]|\x1bc", "", self.text).strip().splitlines()
+        with self.changed:
+            text = self.text
+        lines = re.sub(r"\x1b\[[0-9;?]*[A-Za-z]|\x1bc", "", text).strip().splitlines()
         return "\n".join(f"  {line}" for line in lines[-SHOWN:])
 
     def end(self) -> str:
@@ -79,12 +99,12 @@ class Kernel:
         assert self.process.stdin
         with contextlib.suppress(BrokenPipeError):
             self.process.stdin.write(b"\x01x")
-        limit = time.monotonic() + SECONDS
-        while self.read(1.0) and time.monotonic() < limit:
-            pass
+        with self.changed:
+            self.changed.wait_for(lambda: self.has_ended, SECONDS)
         self.process.terminate()
         self.process.wait(timeout=SECONDS)
-        return self.text[self.at :]
+        with self.changed:
+            return self.text[self.at :]
 
 
 class Wire:
@@ -239,6 +259,7 @@ def failed(kernel: Kernel, fault: Exception, control: str, words: Sequence[str])
     if "accel=kvm" in words:
         text += "Not every KVM runs every instruction: see the paragraph on `iret` in drivers/small/README.md.\n"
     print(text, end="", file=sys.stderr)
+    kernel.skip()
     print(kernel.end().strip())
     return 1
 
@@ -252,7 +273,7 @@ def main(script: str, frames: int, words: Sequence[str]) -> int:
             control = kernel.wait_for(r"^drivers/qemu/run: .*control socket is (\S+)$", FETCHING)[1]
             if is_own:
                 run_own(path, card_of(words), frames)
-                kernel.at = len(kernel.text)
+                kernel.skip()
             else:
                 run(kernel, path, frames)
         except (Wrong, OSError) as fault:

@@ -4,7 +4,8 @@ standard input has something.
 
     echoing.py [WORDS..] --server=--wire=listen:PATH [WORDS..]
 
-ECHOING=turn changes a byte of frame 5; ECHOING=silent sends nothing.
+ECHOING=turn changes a byte of frame 5; ECHOING=silent sends nothing, and prints a line for each frame; ECHOING=verbose
+prints 4 KB for each frame, so 100 frames fill its standard output unless someone reads it.
 """
 
 from __future__ import annotations
@@ -15,6 +16,7 @@ import socket
 import sys
 
 START = "--server=--wire=listen:"
+SAYS = {"silent": "kernel: a frame came", "verbose": "kernel: " + "0123456789abcdef" * 256}
 
 
 def back(frame: bytes, how: str) -> bytes:
@@ -37,6 +39,8 @@ def serve(wire: socket.socket, how: str) -> None:
         waiting += part
         while len(waiting) >= 4 and len(waiting) >= (end := 4 + int.from_bytes(waiting[:4], "big")):
             frame, waiting = waiting[4:end], waiting[end:]
+            if how in SAYS:
+                print(SAYS[how], flush=True)
             if how != "silent":
                 wire.sendall(len(frame).to_bytes(4, "big") + back(frame, how))
 

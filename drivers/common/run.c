@@ -19,12 +19,47 @@ static void on_problem(void *of, const char *what)
     problem("%s", what);
 }
 
+/* Prints a faulty descriptor, which may have been written after the device read it. */
+static void print_descriptor(bool is_transmit, const nic_outcome *outcome)
+{
+    uint16_t queue = outcome->queue;
+    uint64_t ring = bus_peek(run_bus, is_transmit ? NIC_TDBAH(queue) : NIC_RDBAH(queue));
+    ring = ring << 32 | bus_peek(run_bus, is_transmit ? NIC_TDBAL(queue) : NIC_RDBAL(queue));
+    uint64_t at = ring + BUS_SLOT * (uint64_t)outcome->slot, halves[2];
+    const void *bytes = memory_at(&run_memory, at, sizeof halves);
+    if (!bytes || outcome->why == NIC_FAULT_OUTSIDE)
+        return;
+    memcpy(halves, bytes, sizeof halves);
+    fprintf(stderr, "bus: the descriptor at 0x%" PRIx64 " is ", at);
+    if (halves[0] || halves[1])
+        fprintf(stderr, "0x%016" PRIx64 " 0x%016" PRIx64 "\n", halves[0], halves[1]);
+    else
+        fprintf(stderr,
+                "all 0: the tail moved past it before it was written, or the ring has another base or length\n");
+}
+
+/* Prints a fault as the bus does, and the descriptor. */
+static void on_fault(void *of, bool is_transmit, const nic_outcome *outcome)
+{
+    (void)of;
+    char more[96] = "";
+    if (outcome->why == NIC_FAULT_NOT_LENT)
+        snprintf(more, sizeof more, ", bus address 0x%" PRIx64, outcome->bus);
+    else if (outcome->why == NIC_FAULT_TOO_LONG)
+        snprintf(more, sizeof more, ": the bytes since the last descriptor with EOP exceed the frame limit");
+    fprintf(stderr, "bus: a fault in %s, queue %u slot %u: %s%s\n", is_transmit ? "sending" : "receiving",
+            outcome->queue, outcome->slot, nic_fault_name(outcome->why), more);
+    print_descriptor(is_transmit, outcome);
+}
+
 bool run_open(const struct bus_options *options, bool is_copied)
 {
     struct bus_options own = *options;
     memory_begin(&run_memory, is_copied);
     memory_calls(&run_memory, &own.calls);
     own.calls.problem = on_problem;
+    if (!own.calls.fault)
+        own.calls.fault = on_fault;
     run_bus = run_memory.bus = bus_open(&own);
     return run_bus != NULL;
 }
@@ -74,8 +109,8 @@ void run_check_counts(uint64_t drops_expected, uint64_t faults_expected)
 {
     const struct bus_counts *counts = bus_counts(run_bus);
     if (counts->faults != faults_expected || run_memory.refusals || counts->drops != drops_expected)
-        problem("%" PRIu64 " faults, %" PRIu64 " frames dropped, %" PRIu64 " copies refused", counts->faults,
-                counts->drops, run_memory.refusals);
+        wrong_total("faults: %" PRIu64 ", frames dropped by receive steps: %" PRIu64 ", copies refused: %" PRIu64,
+                    counts->faults, counts->drops, run_memory.refusals);
     if (problems())
         run_tell_why("");
     absent_tell(run_bus, stdout, "", "");

@@ -1,15 +1,19 @@
 #ifndef _GNU_SOURCE
-#define _GNU_SOURCE /* REG_RIP */
+#define _GNU_SOURCE /* REG_RIP, dladdr */
 #endif
 #include "trap.h"
 
+#include <dlfcn.h>
 #include <inttypes.h>
+#include <link.h>
 #include <signal.h>
 #include <stdio.h>
 #include <string.h>
+#include <sys/time.h>
 #include <ucontext.h>
 #include <unistd.h>
 
+#include "absent.h"
 #include "operate.h"
 #include "run.h"
 #include "window.h"
@@ -18,6 +22,7 @@
 #define SHOWN 12 /* instruction bytes to print */
 #define SUBJECT 24
 #define ENDLESS 100000 /* equal reads of one register in a row: some seconds */
+#define SILENT 3       /* seconds of CPU time without an access */
 
 #define PREFIX_16 0x66u
 #define HLT 0xF4u
@@ -26,8 +31,8 @@ static const int registers[16] = {REG_RAX, REG_RCX, REG_RDX, REG_RBX, REG_RSP, R
                                   REG_R8,  REG_R9,  REG_R10, REG_R11, REG_R12, REG_R13, REG_R14, REG_R15};
 
 static struct trap_hooks hooks;
-static struct sigaction former_segv, former_bus;
-static uint64_t count;
+static struct sigaction former_segv, former_bus, former_tick;
+static uint64_t count, faults;
 
 /* A faulting instruction, and the next one. */
 struct instruction {
@@ -36,8 +41,16 @@ struct instruction {
     ucontext_t *context;
 };
 
-static void end(void)
+/* Ends the run. For an instruction of a program or a library, prints the command that finds its source line. */
+static void end(const uint8_t *at)
 {
+    Dl_info info;
+    if (dladdr(at, &info) && info.dli_fname && info.dli_fbase) {
+        bool is_fixed = ((const ElfW(Ehdr) *)info.dli_fbase)->e_type == ET_EXEC;
+        uintptr_t offset = (uintptr_t)at - (is_fixed ? 0 : (uintptr_t)info.dli_fbase);
+        fprintf(stderr, "trap: if compiled with -g, its line: addr2line -fpie %s 0x%" PRIxPTR "\n", info.dli_fname,
+                offset);
+    }
     fflush(NULL);
     _exit(STATUS);
 }
@@ -53,7 +66,7 @@ static void give_up(const struct instruction *it, const char *why, const void *a
     fprintf(stderr, "trap: %s: the instruction at %p, accessing %p:", why, (const void *)it->at, address);
     show_bytes(it);
     fprintf(stderr, "\n");
-    end();
+    end(it->at);
 }
 
 /* ---- ring 0 ---- */
@@ -112,7 +125,7 @@ static void refuse(const struct instruction *it, const char *what, unsigned int 
     show_bytes(it);
     fprintf(stderr, "; access registers with volatile 32-bit loads and stores%s\n",
             decode_may_be_folded(what) ? ", in functions that aren't inlined" : "");
-    end();
+    end(it->at);
 }
 
 /* Returns what the reasons about a queue register's queue begin with, such as "rx 0: ". Returns an empty text for other
@@ -138,10 +151,13 @@ static uint32_t read_register(const struct instruction *it, unsigned int functio
     if (last.function != function || last.offset != offset || last.word != word)
         last = (struct reading){.function = function, .offset = offset, .word = word};
     else if (++last.repeats == ENDLESS) {
-        fprintf(stderr, "trap: %s: %u reads in a row returned 0x%08" PRIx32 ": the driver polls, at %p, without end\n",
-                bus_register_name(function, offset, name), last.repeats, word, (const void *)it->at);
+        const char *absent = absent_name(function, offset);
+        fprintf(stderr,
+                "trap: %s%s%s: %u reads in a row returned 0x%08" PRIx32 ": the driver polls, at %p, without end\n",
+                absent ? absent : "", absent ? ", " : "", bus_register_name(function, offset, name), last.repeats, word,
+                (const void *)it->at);
         run_tell_why(subject_of(name, subject));
-        end();
+        end(it->at);
     }
     return word;
 }
@@ -230,6 +246,7 @@ static void on_fault(int signal_number, siginfo_t *info, void *context)
     const uint8_t *at = (const uint8_t *)saved[REG_RIP];
     struct instruction it = {.at = at, .next = at, .saved = saved, .context = context};
     (void)signal_number;
+    faults++;
     if (window_has(at))
         give_up(&it, "a jump into the registers", info->si_addr);
     if (window_has(info->si_addr))
@@ -239,18 +256,46 @@ static void on_fault(int signal_number, siginfo_t *info, void *context)
     saved[REG_RIP] = (greg_t)it.next;
 }
 
+/* Called after each second of CPU time. Ends the run if the driver has made no access for some seconds. */
+static void on_tick(int signal_number, siginfo_t *info, void *context)
+{
+    static uint64_t seen;
+    static unsigned int silent;
+    const uint8_t *at = (const uint8_t *)((ucontext_t *)context)->uc_mcontext.gregs[REG_RIP];
+    (void)signal_number;
+    (void)info;
+    silent = seen == faults ? silent + 1 : 0;
+    seen = faults;
+    if (silent < SILENT)
+        return;
+    fprintf(stderr, "trap: no register was accessed in %d s of CPU time: the driver polls memory, at %p, without end\n",
+            SILENT, (const void *)at);
+    run_tell_why("");
+    end(at);
+}
+
+static bool set_ticks(bool on)
+{
+    struct itimerval every = {.it_interval.tv_sec = on, .it_value.tv_sec = on};
+    return setitimer(ITIMER_VIRTUAL, &every, NULL) == 0;
+}
+
 bool trap_open(const struct trap_hooks *given)
 {
+    struct sigaction tick = {.sa_sigaction = on_tick, .sa_flags = SA_SIGINFO | SA_RESTART};
     /* A hook or a bus callback may itself fault. With SA_NODEFER that fault is reported too, instead of ending the
        process silently. */
     struct sigaction action = {.sa_sigaction = on_fault, .sa_flags = SA_SIGINFO | SA_NODEFER};
     hooks = given ? *given : (struct trap_hooks){0};
     count = 0;
-    return sigaction(SIGSEGV, &action, &former_segv) == 0 && sigaction(SIGBUS, &action, &former_bus) == 0;
+    return sigaction(SIGSEGV, &action, &former_segv) == 0 && sigaction(SIGBUS, &action, &former_bus) == 0 &&
+           sigaction(SIGVTALRM, &tick, &former_tick) == 0 && set_ticks(true);
 }
 
 void trap_close(void)
 {
+    set_ticks(false);
+    sigaction(SIGVTALRM, &former_tick, NULL);
     sigaction(SIGSEGV, &former_segv, NULL);
     sigaction(SIGBUS, &former_bus, NULL);
 }

@@ -15,11 +15,11 @@ struct trap_hooks {
     bool has_ports;     /* IN returns all ones and OUT does nothing, as if no device answered */
 };
 
-/* Handles the process's SIGSEGV and SIGBUS. Returns false if the system refuses. A fault outside the windows, or an
-   instruction that decode.h doesn't contain, is reported with its register and ends the process with status 4. The same
-   happens if a driver polls a register without end. */
+/* Handles the process's SIGSEGV, SIGBUS and SIGVTALRM. Returns false if the system refuses. A fault outside the
+   windows, or an instruction that decode.h doesn't contain, is reported with its register and ends the process with
+   status 4. The same happens if a driver polls a register or memory without end. */
 bool trap_open(const struct trap_hooks *hooks);
-/* Restores both signal handlers. */
+/* Restores the signal handlers. */
 void trap_close(void);
 
 /* Returns the number of instructions performed this way. */

@@ -13,17 +13,32 @@
 
 #define PROBLEMS_MOST 20
 
-static unsigned int problem_count;
+static unsigned int problem_count, hidden_count;
 
-void problem(const char *format, ...)
+static void print_problem(const char *format, va_list rest)
 {
-    if (++problem_count > PROBLEMS_MOST)
-        return;
-    va_list rest;
-    va_start(rest, format);
     fprintf(stderr, "wrong: ");
     vfprintf(stderr, format, rest);
     fprintf(stderr, "\n");
+}
+
+void problem(const char *format, ...)
+{
+    va_list rest;
+    va_start(rest, format);
+    if (++problem_count > PROBLEMS_MOST)
+        hidden_count++;
+    else
+        print_problem(format, rest);
+    va_end(rest);
+}
+
+void wrong_total(const char *format, ...)
+{
+    va_list rest;
+    va_start(rest, format);
+    problem_count++;
+    print_problem(format, rest);
     va_end(rest);
 }
 
@@ -35,21 +50,21 @@ unsigned int problems(void)
 bool same(const char *what, uint64_t reported, uint64_t counted)
 {
     if (reported != counted)
-        problem("%s: reported %" PRIu64 ", counted %" PRIu64, what, reported, counted);
+        wrong_total("%s: reported %" PRIu64 ", counted %" PRIu64, what, reported, counted);
     return reported == counted;
 }
 
 bool all_of(const char *what, uint64_t count, uint64_t wanted)
 {
     if (count != wanted)
-        problem("%" PRIu64 " of %" PRIu64 " %s", count, wanted, what);
+        wrong_total("%" PRIu64 " of %" PRIu64 " %s", count, wanted, what);
     return count == wanted;
 }
 
 int verdict(void)
 {
-    if (problem_count > PROBLEMS_MOST)
-        fprintf(stderr, "wrong: %u more problems aren't printed\n", problem_count - PROBLEMS_MOST);
+    if (hidden_count)
+        fprintf(stderr, "wrong: %u more problems aren't printed\n", hidden_count);
     printf(problem_count ? "problems found: %u\n" : "nothing is wrong\n", problem_count);
     fflush(stdout);
     return problem_count ? 1 : 0;

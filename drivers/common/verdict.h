@@ -5,8 +5,10 @@
 #include <stdbool.h>
 #include <stdint.h>
 
-/* Reports a problem on standard error. Only the first twenty problems are printed; all are counted. */
+/* Reports a problem on standard error. Only the first twenty problems are printed; all are counted. wrong_total reports
+   a problem that is always printed, for a run's totals, which come last. */
 void problem(const char *format, ...) __attribute__((format(printf, 1, 2)));
+void wrong_total(const char *format, ...) __attribute__((format(printf, 1, 2)));
 unsigned int problems(void);
 
 /* Returns whether a reported count equals the run's own count. If it doesn't, reports a problem. */

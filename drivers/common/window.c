@@ -56,6 +56,9 @@ void window_find(const volatile void *address, unsigned int *function, uint32_t 
         *offset = (uint32_t)((at - PHYSICAL_STEP) % VIRTUAL_STEP);
         return;
     }
-    problem("an access to %p, which is in no register window", (const void *)(uintptr_t)address);
+    if (at < PHYSICAL_STEP)
+        problem("an access to offset 0x%05zx, but the registers end at 0x%05x", (size_t)at, BUS_SPACE);
+    else
+        problem("an access to %p, which is in no register window", (const void *)(uintptr_t)address);
     *offset = BUS_SPACE;
 }

@@ -13,6 +13,15 @@ enum { BUS = 0x100000, FRAMES = 2000 };
 static const uint8_t card[6] = {2, 0, 0, 0, 0x82, 0x99}, peer[6] = {2, 0, 0, 0, 0, 1};
 static unsigned int came_back;
 
+/* Returns the first byte in which the frames differ, or the length of the shorter one. */
+static size_t first_difference(const struct frame *wanted, const uint8_t *bytes, size_t length)
+{
+    size_t at = 0;
+    while (at < length && at < wanted->length && bytes[at] == wanted->bytes[at])
+        at++;
+    return at;
+}
+
 static void on_frame(void *of, uint16_t queue, const uint8_t *bytes, size_t length)
 {
     (void)of;
@@ -20,7 +29,8 @@ static void on_frame(void *of, uint16_t queue, const uint8_t *bytes, size_t leng
     struct frame wanted;
     frame_make(&wanted, came_back, FRAME_MAX, card, peer);
     if (!frame_is(&wanted, bytes, length))
-        problem("frame %u was sent with wrong bytes", came_back);
+        problem("frame %u: %zu of %u bytes came back; they differ from byte %zu on", came_back, length, wanted.length,
+                first_difference(&wanted, bytes, length));
     came_back++;
 }
 

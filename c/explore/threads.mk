@@ -10,12 +10,22 @@ THREADS_FORM    := $(addprefix $(OUT)/nic82599_,threads.opts program.opts thread
 
 $(OUT)/threads/%.o: $(HERE)/explore/threads/%.c $(THREADS_HEADERS) $(EXPLORE_HEADERS)
 	@mkdir -p $(OUT)/threads
-	$Q$(CC) -std=c99 $(EXPLORE_FLAGS) -Wall -Wextra -pedantic -fPIC -I$(HERE)/include -c -o $@ $<
+	$Q$(CC) -std=c99 $(EXPLORE_FLAGS) -Wall -Wextra -pedantic -fPIC -I$(HERE)/include -I$(OUT)/threads -c -o $@ $<
 
 # The intercepted calls are the functions __wrap_NAME, which the linker calls instead of NAME. Calls made by the
-# engine itself, in this archive too, still go to NAME.
-$(OUT)/threads/intercepted: $(THREADS_OBJECTS)
+# engine itself, in this archive too, still go to NAME. (outside.c contains the list of names, so an object made without
+# the list provides its own names.)
+$(OUT)/threads/intercepted: $(filter-out %/outside.o,$(THREADS_OBJECTS)) $(OUT)/threads/outside-names.o
 	$Qnm -g --defined-only $^ | sed -n 's/.* T __wrap_//p' | LC_ALL=C sort -u >$@
+
+$(OUT)/threads/outside-names.o: $(HERE)/explore/threads/outside.c $(THREADS_HEADERS) $(EXPLORE_HEADERS)
+	@mkdir -p $(OUT)/threads
+	$Q$(CC) -std=c99 $(EXPLORE_FLAGS) -fPIC -DNICX_NAMES_ONLY -I$(HERE)/include -c -o $@ $<
+
+$(OUT)/threads/intercepted.inc: $(OUT)/threads/intercepted
+	$Qsed -e 's/.*/"&",/' $< >$@
+
+$(OUT)/threads/outside.o: $(OUT)/threads/intercepted.inc
 
 $(OUT)/threads/names.syms: $(OUT)/threads/intercepted
 	$Qsed -e 's/.*/& __real_&/' $< >$@

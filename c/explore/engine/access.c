@@ -4,6 +4,7 @@
 #include <stdlib.h>
 #include <string.h>
 
+#include "checkpoint.h"
 #include "engine.h"
 #include "independent.h"
 #include "left.h"
@@ -196,6 +197,15 @@ static struct {
     const void *call;
 } taken_back[MOST_TAKEN];
 static unsigned next_taken;
+
+void nicxi_access_part(struct checkpoint *it)
+{
+    nicxi_part(it, &outside, sizeof outside);
+    nicxi_part(it, &is_settled, sizeof is_settled);
+    nicxi_part(it, &outside_call, sizeof outside_call);
+    nicxi_part(it, taken_back, sizeof taken_back);
+    nicxi_part(it, &next_taken, sizeof next_taken);
+}
 
 static void note_taken(const struct step *step)
 {

@@ -5,6 +5,7 @@
 #include <stdio.h>
 #include <string.h>
 
+#include "checkpoint.h"
 #include "engine.h"
 #include "words.h"
 
@@ -21,6 +22,11 @@ static struct {
 void nicxi_cover_begin(void)
 {
     inside.let_in = inside.oldest = 0;
+}
+
+void nicxi_cover_part(struct checkpoint *it)
+{
+    nicxi_part(it, &inside, sizeof inside);
 }
 
 int nicxi_frame_in_hand(bool is_taken)

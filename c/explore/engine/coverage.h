@@ -28,6 +28,9 @@ struct step;
 
 /* Called when a schedule starts: no frame has entered the device yet. */
 void nicxi_cover_begin(void);
+/* What is known about the frames inside the device, as a part of a checkpoint. */
+struct checkpoint;
+void nicxi_cover_part(struct checkpoint *it);
 /* Returns the frame that a receive step is about, whether or not the step took it; -1 if no frame was waiting. Call
    this after nicxi_cover_step. */
 int nicxi_frame_in_hand(bool is_taken);

@@ -284,6 +284,9 @@ void nicxi_wait_outside(void);
 /* If not null, called with the report instead of printing it; must not return. */
 extern void (*nicxi_gives_up)(const char *words);
 void nicxi_forget_polls(struct polls *polls);
+/* The accesses outside of threads, and the blocks taken back, as a part of a checkpoint. */
+struct checkpoint;
+void nicxi_access_part(struct checkpoint *it);
 /* Begins a phase in which no thread acts: a bring-up, or a schedule's `begin`. */
 void nicxi_outside_begins(void);
 

@@ -376,6 +376,12 @@ nicx_chooser nicxi_exhaustive_chooser(struct exhaustive *it)
     return chooser;
 }
 
+/* Only the choice at the last point has changed. */
+uint32_t nicxi_exhaustive_prefix(const struct exhaustive *it)
+{
+    return it->depth ? it->depth - 1 : 0;
+}
+
 /* --- the next schedule --- */
 
 void nicxi_exhaustive_made(struct exhaustive *it)

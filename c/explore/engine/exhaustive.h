@@ -1,5 +1,5 @@
-/* Runs all schedules up to a bound of preemptions, depth first, each from its beginning. A preemption is a switch away
-   from an actor that could have continued. */
+/* Runs all schedules up to a bound of preemptions, depth first, each from its beginning or from a checkpoint
+   (checkpoint.h). A preemption is a switch away from an actor that could have continued. */
 #ifndef NICX_EXHAUSTIVE_H
 #define NICX_EXHAUSTIVE_H
 
@@ -32,6 +32,8 @@ bool nicxi_exhaustive_is_glance(const struct exhaustive *it);
 /* The first returns the chooser for the next schedule; the second, called after the schedule, notes what it showed. */
 nicx_chooser nicxi_exhaustive_chooser(struct exhaustive *it);
 void nicxi_exhaustive_made(struct exhaustive *it);
+/* Returns at how many points the next schedule makes the same choices as the last one. */
+uint32_t nicxi_exhaustive_prefix(const struct exhaustive *it);
 
 /* Whether a schedule took a different course than before, because the driver behaves differently on each run. */
 bool nicxi_exhaustive_is_strange(const struct exhaustive *it);

@@ -6,6 +6,7 @@
 #include <string.h>
 #include <sys/mman.h>
 
+#include "checkpoint.h"
 #include "piece.h"
 
 enum { PART = 1024 }; /* bytes that are compared at once */
@@ -89,6 +90,13 @@ void nicxi_heap_copy(void *room)
 bool nicxi_heap_is(const void *copy, size_t size)
 {
     return size == memory->used && memcmp(memory, copy, size) == 0;
+}
+
+void nicxi_heap_part(struct checkpoint *it)
+{
+    size_t used = memory->used;
+    nicxi_part(it, &used, sizeof used);
+    nicxi_part(it, memory, used);
 }
 
 static bool is_searcher(void)

@@ -34,4 +34,8 @@ size_t nicxi_heap_size(void);
 void nicxi_heap_copy(void *room);
 bool nicxi_heap_is(const void *copy, size_t size);
 
+/* The piece, as a part of a checkpoint. */
+struct checkpoint;
+void nicxi_heap_part(struct checkpoint *it);
+
 #endif

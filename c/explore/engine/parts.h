@@ -6,10 +6,13 @@
 #include "engine.h"
 
 struct nicxi_form {
-    void (*open)(void);  /* called before bring_up */
-    void (*keep)(void);  /* called after bring_up: saves the driver's own memory */
-    void (*back)(void);  /* restores that memory before each schedule */
-    void (*begun)(void); /* called after begin: names the threads that the driver may create */
+    void (*open)(void); /* called before bring_up */
+    void (*keep)(void); /* called after bring_up: saves the driver's own memory */
+    void (*back)(void); /* restores that memory before each schedule */
+    /* whether a schedule changes nothing but what `part` and the engine's parts of a checkpoint save */
+    bool (*is_known)(void);
+    void (*part)(struct checkpoint *it); /* the driver's memory and the threads, as parts of a checkpoint */
+    void (*begun)(void);                 /* called after begin: names the threads that the driver may create */
     void (*close)(void);
     /* called when the engine switches threads; null stands for the engine */
     void (*goes)(const struct thread *from, const struct thread *to);

@@ -5,6 +5,7 @@
 #include <stdlib.h>
 #include <string.h>
 
+#include "checkpoint.h"
 #include "engine.h"
 #include "heap.h"
 #include "left.h"
@@ -422,6 +423,8 @@ static bool is_endless(void)
 static uint16_t choose(void)
 {
     while (!nicxi.result.outcome && !nicxi.is_cut && !nicxi.is_over && !is_endless()) {
+        if (*nicxi.points >= nicxi_checkpoint_at)
+            nicxi_checkpoint_take();
         uint32_t count = list_able();
         if (nicxi.result.outcome)
             break;
@@ -618,11 +621,8 @@ static void judge_end(void)
         judge_waiting(false);
 }
 
-void nicx_run(const nicx_chooser *chooser, nicx_result *result)
+static void start(void)
 {
-    nicxi_heap_is_mine();
-    nicxi_is_made_here();
-    nicxi.main.bottom = NULL;
     reset();
     nicxi_back();
     if (nicxi.is_weak)
@@ -631,7 +631,6 @@ void nicx_run(const nicx_chooser *chooser, nicx_result *result)
         nicxi_form->back();
     if (nicxi_races)
         nicxi_races->begin();
-    nicxi.chooser = chooser;
     nicxi_begin();
     nicxi.next_frame = nicxi_next_kept(nicxi.omitted.frames, 0, nicxi.frame_count);
     nicxi.next_link = nicxi_next_kept(nicxi.omitted.links, 0, nicxi.link_count);
@@ -639,6 +638,17 @@ void nicx_run(const nicx_chooser *chooser, nicx_result *result)
     begin_threads();
     nicxi.phase = RUNNING;
     nicxi_next(NULL);
+}
+
+void nicx_run(const nicx_chooser *chooser, nicx_result *result)
+{
+    nicxi_heap_is_mine();
+    nicxi_is_made_here();
+    nicxi.main.bottom = NULL;
+    nicxi.chooser = chooser;
+    if (!nicxi_checkpoint_continues())
+        start();
+    nicxi_checkpoint_serve();
     judge_end();
     nicxi.result.points = *nicxi.points;
     nicxi.result.switches = nicxi.switches;

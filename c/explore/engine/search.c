@@ -11,6 +11,7 @@
 #include <time.h>
 #include <unistd.h>
 
+#include "checkpoint.h"
 #include "exhaustive.h"
 #include "words.h"
 
@@ -250,6 +251,7 @@ static bool make_of_part(struct post *post, const struct job *job, struct exhaus
 {
     nicx_result result;
     nicx_chooser chooser = nicxi_exhaustive_chooser(state);
+    nicxi_checkpoints_plan(nicxi_exhaustive_prefix(state));
     post->is_running = true;
     nicx_run(&chooser, &result);
     post->is_running = false;
@@ -311,10 +313,13 @@ static void search_all(struct post *post, const struct job *job)
 static void work(struct post *post, void *argument)
 {
     const struct job *job = argument;
-    if (job->options->strategy == EXHAUSTIVE)
+    if (job->options->strategy == EXHAUSTIVE) {
+        nicxi_checkpoints_open();
         search_all(post, job);
-    else
+        nicxi_checkpoints_close();
+    } else {
         search_by_chance(post, job);
+    }
     if (post->is_found && post->run < job->common->lowest)
         job->common->lowest = post->run;
 }

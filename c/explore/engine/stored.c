@@ -3,6 +3,7 @@
 #include <stdio.h>
 #include <string.h>
 
+#include "checkpoint.h"
 #include "names.h"
 #include "parts.h"
 
@@ -32,6 +33,7 @@ static bool is_in_schedule(void)
 static void note(uint64_t key, const void *call)
 {
     struct stored *it = place_of(key);
+    nicxi_undo_later(it, sizeof *it);
     it->epoch = nicxi.epoch;
     it->key = key;
     it->who = nicxi.self;
@@ -63,8 +65,10 @@ static const struct stored *known(uint64_t key)
 static void forget(uint64_t bus)
 {
     struct stored *it = place_of(bus / UNIT);
-    if (it->key == bus / UNIT)
-        it->epoch = 0;
+    if (it->key != bus / UNIT)
+        return;
+    nicxi_undo_later(it, sizeof *it);
+    it->epoch = 0;
 }
 
 void nicxi_forget_stored(const struct step *step)

@@ -87,7 +87,16 @@ struct beginning {
     void *argument;
 };
 
-static struct beginning beginnings[MOST_THREADS];
+static struct {
+    struct beginning list[MOST_THREADS];
+    uint64_t epoch;
+    unsigned next;
+} beginnings;
+
+void nicxi_c11_part(struct checkpoint *it)
+{
+    nicxi_part(it, &beginnings, sizeof beginnings);
+}
 
 static void *begin(void *argument)
 {
@@ -98,14 +107,12 @@ static void *begin(void *argument)
 int __real_thrd_create(thrd_t *thread, thrd_start_t function, void *argument);
 int __wrap_thrd_create(thrd_t *thread, thrd_start_t function, void *argument)
 {
-    static uint64_t epoch;
-    static unsigned next;
     if (!nicxi_is_ours())
         return __real_thrd_create(thread, function, argument);
-    if (epoch != nicxi.epoch)
-        next = 0;
-    epoch = nicxi.epoch;
-    struct beginning *it = &beginnings[next++ % MOST_THREADS];
+    if (beginnings.epoch != nicxi.epoch)
+        beginnings.next = 0;
+    beginnings.epoch = nicxi.epoch;
+    struct beginning *it = &beginnings.list[beginnings.next++ % MOST_THREADS];
     *it = (struct beginning){function, argument};
     const struct creation creation = {begin, it, (const void *)(uintptr_t)function, 0, false};
     return as_c11(nicxi_create(thread, &creation, "thrd_create", HERE));

@@ -15,6 +15,7 @@ struct posix_thread nicxi_posix[MOST_THREADS + 1];
 struct thread *nicxi_alone;
 bool (*nicxi_program_opens)(uint8_t vfs, uint16_t fifo, uint32_t blocks, void **device);
 void (*nicxi_program_ends)(int status);
+void (*nicxi_program_part)(struct checkpoint *it);
 
 void nicxi_program_begins(void)
 {
@@ -258,6 +259,32 @@ static void back(void)
     nicxi_state_back();
 }
 
+/* Adds the data that the calls keep for each thread, and for callers outside of threads. */
+static void posix_part(struct checkpoint *it)
+{
+    nicxi_part(it, nicxi_posix, nicxi.tasks * sizeof *nicxi_posix);
+    nicxi_part(it, nicxi_posix + NICX_TASKS, nicxi.handlers * sizeof *nicxi_posix);
+    nicxi_part(it, nicxi_posix + OUTSIDE, sizeof *nicxi_posix);
+}
+
+static void part(struct checkpoint *it)
+{
+    posix_part(it);
+    nicxi_state_part(it);
+    nicxi_callers_part(it);
+    nicxi_time_part(it);
+    nicxi_c11_part(it);
+    if (nicxi_races)
+        nicxi_race_part(it);
+    if (nicxi_program_part)
+        nicxi_program_part(it);
+}
+
+static bool is_known(void)
+{
+    return nicxi_taken_is_open() && nicxi_stays_inside();
+}
+
 static void ended(struct thread *thread)
 {
     char object[MOST_NAMED], where[MOST_NAMED];
@@ -296,6 +323,8 @@ static const struct nicxi_form form = {
     .open = nicxi_state_open,
     .keep = nicxi_state_keep,
     .back = back,
+    .is_known = is_known,
+    .part = part,
     .begun = nicxi_name_made,
     .close = nicxi_state_close,
     .goes = nicxi_state_goes,

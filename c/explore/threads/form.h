@@ -6,6 +6,7 @@
 
 #include <pthread.h>
 
+#include "../engine/checkpoint.h"
 #include "../engine/parts.h"
 
 enum { MOST_HELD = 16, MOST_KEYS = 64, OUTSIDE = MOST_THREADS, MOST_NAMED = 96 };
@@ -119,6 +120,11 @@ bool nicxi_mutex_is_mine(const struct thread *self, const pthread_mutex_t *mutex
 void nicxi_mutex_take(struct thread *self, pthread_mutex_t *mutex, unsigned count, const void *at);
 unsigned nicxi_mutex_give(struct thread *self, pthread_mutex_t *mutex);
 
+/* Whether a schedule changes nothing but what a checkpoint saves (outside.c). */
+bool nicxi_stays_inside(void);
+/* Set by calls that change something else; and in a search that discards what the program prints. */
+extern bool nicxi_is_outside, nicxi_is_silent;
+
 /* Finds a barrier or an exchange in the driver's inline assembly. Returns its name, or null. */
 const char *nicxi_find_assembly(const void **where);
 
@@ -127,6 +133,13 @@ void nicxi_state_open(void);
 void nicxi_state_keep(void);
 void nicxi_state_back(void);
 void nicxi_state_close(void);
+void nicxi_state_part(struct checkpoint *it);
+/* Other parts of a checkpoint: the stacks of calls, the clock, and C11's threads. */
+void nicxi_callers_part(struct checkpoint *it);
+void nicxi_time_part(struct checkpoint *it);
+void nicxi_c11_part(struct checkpoint *it);
+/* A whole program's part; null if no whole program is searched. */
+extern void (*nicxi_program_part)(struct checkpoint *it);
 void nicxi_state_goes(const struct thread *from, const struct thread *to);
 
 /* Called in a searched whole program: other actors may run after this call, because the program creates a thread, or

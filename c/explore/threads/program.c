@@ -27,7 +27,7 @@ static struct {
     char **argv;
     char name[64];
     int scout; /* file to which the scout process writes which controller the program opens; -1 in other processes */
-    bool is_opened, is_silent;
+    bool is_opened;
     char end[64];
     nicx_scenario scenario;
 } program = {.scout = -1};
@@ -36,8 +36,8 @@ extern char **environ;
 
 static void be_silent(void)
 {
-    int nowhere = program.is_silent ? -1 : open("/dev/null", O_WRONLY);
-    program.is_silent = true;
+    int nowhere = nicxi_is_silent ? -1 : open("/dev/null", O_WRONLY);
+    nicxi_is_silent = true;
     if (nowhere < 0)
         return;
     dup2(nowhere, STDOUT_FILENO);
@@ -129,6 +129,12 @@ static void begin(void)
     nicx_task("main", run, NULL);
 }
 
+static void part(struct checkpoint *it)
+{
+    nicxi_part(it, &program.is_opened, sizeof program.is_opened);
+    nicxi_part(it, program.end, sizeof program.end);
+}
+
 static const char *end(void)
 {
     return program.end[0] ? program.end : NULL;
@@ -166,6 +172,7 @@ int __wrap_main(int argc, char **argv)
     take_name(argv[0]);
     nicxi_program_opens = opens;
     nicxi_program_ends = ends;
+    nicxi_program_part = part;
     struct sizes sizes = find_sizes();
     program.scenario = (nicx_scenario){.name = program.name,
                                        .vfs = sizes.vfs,

@@ -108,6 +108,7 @@ static void make_room(void)
     for (size_t k = 0; k < objects.room; k++)
         if (objects.list[k].epoch == nicxi.epoch)
             *place_of(list, room, objects.list[k].key) = objects.list[k];
+    nicxi_checkpoints_drop();
     free(objects.list);
     objects.list = list;
     objects.room = room;
@@ -122,6 +123,7 @@ static struct clock *clock_of(enum space space, uint64_t of)
     if (2 * objects.used >= objects.room)
         make_room();
     struct object *object = place_of(objects.list, objects.room, key);
+    nicxi_undo_later(object, sizeof *object);
     if (object->epoch != nicxi.epoch) {
         object->key = key;
         object->epoch = nicxi.epoch;
@@ -316,6 +318,7 @@ static void make_shadow(void)
     for (size_t k = 0; k < shadow.room; k++)
         if (shadow.list[k].epoch == nicxi.epoch)
             *granule_place(list, room, shadow.list[k].key) = shadow.list[k];
+    nicxi_checkpoints_drop();
     free(shadow.list);
     shadow.list = list;
     shadow.room = room;
@@ -329,6 +332,7 @@ static struct granule *granule_of(uint64_t key)
     if (2 * shadow.used >= shadow.room)
         make_shadow();
     struct granule *granule = granule_place(shadow.list, shadow.room, key);
+    nicxi_undo_later(granule, sizeof *granule);
     if (granule->epoch != nicxi.epoch) {
         granule->key = key;
         granule->epoch = nicxi.epoch;
@@ -534,13 +538,20 @@ static struct granule *known(uint64_t key)
     return granule && granule->epoch == nicxi.epoch ? granule : NULL;
 }
 
+static void forget(struct granule *granule)
+{
+    if (!granule)
+        return;
+    nicxi_undo_later(granule, sizeof *granule);
+    granule->count = 0;
+}
+
 void nicxi_race_forget(const void *at, size_t length)
 {
     if (!is_open || !length || nicxi.phase != RUNNING)
         return;
     for (uint64_t key = (uintptr_t)at >> 3; key <= ((uintptr_t)at + length - 1) >> 3; key++)
-        if (known(key))
-            known(key)->count = 0;
+        forget(known(key));
 }
 
 void nicxi_race_free(const void *at, size_t length, const void *call)
@@ -712,6 +723,28 @@ static void takes(const void *object)
 {
     if (is_watching())
         take(MEMORY, (uintptr_t)object);
+}
+
+static void thread_part(struct checkpoint *it, unsigned number)
+{
+    nicxi_part(it, &now[number], sizeof now[number]);
+    nicxi_part(it, &fences[number], sizeof fences[number]);
+    nicxi_part(it, &sat[number], sizeof sat[number]);
+}
+
+/* A thread's past is overwritten when it runs again. Stores are late only with weak memory. */
+void nicxi_race_part(struct checkpoint *it)
+{
+    for (unsigned k = 0; k < nicxi.tasks; k++)
+        thread_part(it, k);
+    for (unsigned k = NICX_TASKS; k < NICX_TASKS + (unsigned)nicxi.handlers; k++)
+        thread_part(it, k);
+    nicxi_part(it, &now[DEVICE], sizeof now[DEVICE]);
+    nicxi_part(it, &objects.used, sizeof objects.used);
+    nicxi_part(it, &objects.epoch, sizeof objects.epoch);
+    nicxi_part(it, &shadow.used, sizeof shadow.used);
+    nicxi_part(it, &shadow.epoch, sizeof shadow.epoch);
+    nicxi_part(it, &is_looking, sizeof is_looking);
 }
 
 static void begin(void)

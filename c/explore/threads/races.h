@@ -11,6 +11,8 @@
 
 /* Called if accesses are observed: the driver was built with -fsanitize=thread. */
 void nicxi_race_open(void);
+struct checkpoint;
+void nicxi_race_part(struct checkpoint *it);
 
 /* Make the running thread release everything that it did so far to an object, or acquire from the object. */
 void nicxi_race_release(const void *object);

@@ -77,5 +77,6 @@ long __wrap_syscall(long number, long a, long b, long c, long d, long e, long f)
 {
     if (number == SYS_futex)
         nicxi_refuse("syscall(SYS_futex)", HERE);
+    nicxi_is_outside = true;
     return __real_syscall(number, a, b, c, d, e, f);
 }

@@ -148,6 +148,30 @@ void nicxi_state_back(void)
     begin_local();
 }
 
+static void local_part(struct checkpoint *it, unsigned number)
+{
+    nicxi_part(it, &own_errno[number], sizeof own_errno[number]);
+    if (has_local() && local.of[number])
+        nicxi_part(it, local.of[number], local.size);
+}
+
+void nicxi_state_part(struct checkpoint *it)
+{
+    int now = errno;
+    nicxi_part(it, nicxi_data_begin, (size_t)(nicxi_data_end - nicxi_data_begin));
+    nicxi_part(it, nicxi_bss_begin, (size_t)(nicxi_bss_end - nicxi_bss_begin));
+    nicxi_part(it, &nicxi_keys, sizeof nicxi_keys);
+    nicxi_taken_part(it);
+    if (has_local())
+        nicxi_part(it, local.block, local.size);
+    for (unsigned k = 0; k < nicxi.tasks; k++)
+        local_part(it, k);
+    for (unsigned k = NICX_TASKS; k < NICX_TASKS + (unsigned)nicxi.handlers; k++)
+        local_part(it, k);
+    nicxi_part(it, &now, sizeof now);
+    errno = now;
+}
+
 void nicxi_state_close(void)
 {
     free(kept_data);

@@ -476,6 +476,31 @@ void nicxi_taken_back(void)
     copy_freed(&freed, &kept_freed);
 }
 
+bool nicxi_taken_is_open(void)
+{
+    return piece != NULL;
+}
+
+static void freed_part(struct checkpoint *it)
+{
+    nicxi_part(it, &freed.first, sizeof freed.first);
+    nicxi_part(it, &freed.count, sizeof freed.count);
+    nicxi_part(it, &freed.bytes, sizeof freed.bytes);
+    for (unsigned k = freed.first; k < freed.first + freed.count; k++)
+        nicxi_part(it, &freed.list[k % MOST_FREED], sizeof *freed.list);
+}
+
+void nicxi_taken_part(struct checkpoint *it)
+{
+    size_t now = piece->used, used = now;
+    nicxi_part(it, &used, sizeof used);
+    nicxi_part(it, piece, used);
+    nicxi_part(it, units, used / UNIT);
+    if (now > used)
+        memset(units + used / UNIT, 0, (now - used) / UNIT);
+    freed_part(it);
+}
+
 void nicxi_taken_close(void)
 {
     free(kept_piece);

@@ -13,6 +13,10 @@ void nicxi_taken_open(void);
 void nicxi_taken_keep(void);
 void nicxi_taken_back(void);
 void nicxi_taken_close(void);
+/* Whether all of the driver's memory from malloc is in the piece. */
+bool nicxi_taken_is_open(void);
+struct checkpoint;
+void nicxi_taken_part(struct checkpoint *it);
 
 /* The start of the piece; without a piece, an address that no access has. */
 extern uintptr_t nicxi_taken_from;

@@ -13,6 +13,12 @@ enum { SECOND = 1000000000, POINT = 1000, FIRST = 1000000 };
 
 static uint64_t slept, of_epoch;
 
+void nicxi_time_part(struct checkpoint *it)
+{
+    nicxi_part(it, &slept, sizeof slept);
+    nicxi_part(it, &of_epoch, sizeof of_epoch);
+}
+
 static uint64_t now(void)
 {
     if (of_epoch != nicxi.epoch)

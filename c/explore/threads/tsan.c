@@ -299,6 +299,13 @@ static struct {
     unsigned depth;
 } callers[MOST_THREADS + 1];
 
+void nicxi_callers_part(struct checkpoint *it)
+{
+    nicxi_part(it, callers, nicxi.tasks * sizeof *callers);
+    nicxi_part(it, callers + NICX_TASKS, nicxi.handlers * sizeof *callers);
+    nicxi_part(it, callers + OUTSIDE, sizeof *callers);
+}
+
 static unsigned whose(void)
 {
     return nicxi_alone ? nicxi_number(nicxi_alone) : nicxi.self ? nicxi_number(nicxi.self) : OUTSIDE;

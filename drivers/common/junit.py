@@ -29,11 +29,14 @@ class Run:
 
     @property
     def cause(self) -> str:
-        """The first line that names a problem, or the last line. If the run crashed or hung, also the line before."""
+        """The first line that names a problem, or the last line. If the run crashed or hung, also the line before; if
+        the run knows the reason, also that."""
         lines = [line for line in self.said.splitlines() if line.strip()] or [f"status {self.status}"]
         at = next((k for k, line in enumerate(lines) if line.startswith("wrong")), len(lines) - 1)
         is_stopped = at > 0 and STOPPED.search(lines[at])
-        return lines[at] + (f"; the line before: {lines[at - 1].strip()}" if is_stopped else "")
+        before = f"; the line before: {lines[at - 1].strip()}" if is_stopped else ""
+        why = next((f"; {line}" for line in lines if line.startswith("why: ")), "")
+        return lines[at] + before + why
 
 
 def run_of(path: Path) -> Run:

@@ -15,9 +15,9 @@
 
 static unsigned int problem_count, hidden_count;
 
-static void print_problem(const char *format, va_list rest)
+static void print(const char *what, const char *format, va_list rest)
 {
-    fprintf(stderr, "wrong: ");
+    fprintf(stderr, "%s: ", what);
     vfprintf(stderr, format, rest);
     fprintf(stderr, "\n");
 }
@@ -29,7 +29,7 @@ void problem(const char *format, ...)
     if (++problem_count > PROBLEMS_MOST)
         hidden_count++;
     else
-        print_problem(format, rest);
+        print("wrong", format, rest);
     va_end(rest);
 }
 
@@ -38,7 +38,15 @@ void wrong_total(const char *format, ...)
     va_list rest;
     va_start(rest, format);
     problem_count++;
-    print_problem(format, rest);
+    print("wrong", format, rest);
+    va_end(rest);
+}
+
+void reason(const char *format, ...)
+{
+    va_list rest;
+    va_start(rest, format);
+    print("why", format, rest);
     va_end(rest);
 }
 

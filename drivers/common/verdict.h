@@ -11,6 +11,9 @@ void problem(const char *format, ...) __attribute__((format(printf, 1, 2)));
 void wrong_total(const char *format, ...) __attribute__((format(printf, 1, 2)));
 unsigned int problems(void);
 
+/* Prints what caused the problems so far, on standard error, even if some of them weren't printed. */
+void reason(const char *format, ...) __attribute__((format(printf, 1, 2)));
+
 /* Returns whether a reported count equals the run's own count. If it doesn't, reports a problem. */
 bool same(const char *what, uint64_t reported, uint64_t counted);
 

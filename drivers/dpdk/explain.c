@@ -97,7 +97,8 @@ void expect_different(struct rte_mbuf *const *packets, unsigned int count)
     for (unsigned int i = 1; i < count; i++)
         for (unsigned int k = 0; k < i; k++)
             if (packets[i] == packets[k]) {
-                problem("the pool returned packet %p twice: the driver freed it twice", (void *)packets[i]);
+                problem("the pool returned packet %p twice", (void *)packets[i]);
+                reason("the driver freed packet %p twice", (void *)packets[i]);
                 give_up();
             }
 }
@@ -128,6 +129,7 @@ void expect_freed_once(void)
     free(all);
     if (twice == 0)
         return;
-    problem("%zu packets are in the pool twice, the first is %p: the driver freed them twice", twice, first);
+    problem("packets that are in the pool twice: %zu", twice);
+    reason("the driver freed packets twice: %zu of them, the first is %p", twice, first);
     give_up();
 }

@@ -7,12 +7,18 @@
 
 #include "card.h"
 #include "hashes.h"
+#include "mailbox.h"
 #include "run.h"
 #include "verdict.h"
 
 #define HOST_DEVICE 0x10F7     /* 82599EB, KX4 */
 #define FUNCTION_DEVICE 0x10ED /* device ID of its virtual functions */
 #define NAME_ROOM 8
+#define WHAT 40
+#define MAILBOX_WORDS 16
+/* in the first word of a message */
+#define REQUEST_NUMBER 0xFFFFu
+#define ANSWERED 0xC0000000u
 
 const char *const phase_names[] = {
     "probe", "start",    "traffic",  "counters", "requests", "host", "stop",
@@ -82,12 +88,32 @@ int port_try_probe(unsigned int which)
     return status;
 }
 
+/* If the host owes a virtual function the answer to a request, prints that as the reason for its failure. The mailbox
+   still contains the request. */
+static void tell_unanswered(unsigned int which)
+{
+    uint32_t request = bus_peek(run_bus, NIC_PFMBMEM(MAILBOX_WORDS * (which - 1)));
+    struct mailbox_counts counts = mailbox_counts(run_bus, request & REQUEST_NUMBER);
+    unsigned int word = (which - 1) / 16, bit = (which - 1) % 16;
+    if (bus_peek(run_bus, NIC_PFMBICR(word)) >> bit & 1)
+        reason("the host didn't read %s's request 0x%08" PRIx32 ": bit %u of PFMBICR[%u] is 1", port_name(which),
+               request, bit, word);
+    else if (!(request & ANSWERED) && counts.acknowledged + counts.refused < counts.asked)
+        reason("the host read %s's request 0x%08" PRIx32 " but didn't answer it", port_name(which), request);
+}
+
 bool port_probe(unsigned int which)
 {
+    char what[WHAT];
     if (ports[which].is_there)
         return true;
     printf("%s is probed\n", port_name(which));
-    return !failed("the driver's probe", probe(which)) && greet(which);
+    snprintf(what, sizeof what, "the driver's probe of %s", port_name(which));
+    if (!failed(what, probe(which)))
+        return greet(which);
+    if (which != HOST)
+        tell_unanswered(which);
+    return false;
 }
 
 /* Probes a virtual function and checks the result. Before the physical function is started, the mailbox works only if

@@ -19,10 +19,14 @@ fail() { say "$@"; exit 1; }
 # Prints the script's head comment.
 head_comment() { sed -n '2,/^$/s/^# \{0,1\}//p' "$0"; }
 
-# usage [MESSAGE]: prints the script's head comment as an error, and ends the script with status 3.
+# usage [MESSAGE]: ends the script with status 3. Prints the message and how to get help; without a message, the
+# script's head comment.
 usage() {
-    [ -z "${1-}" ] || say "$1"
-    head_comment >&2
+    case ${1-} in
+        "") head_comment >&2 ;;
+        "unknown argument: -h" | "unknown argument: --help") help ;; # in a script that doesn't ask for it
+        *) say "$1 ($NAME --help lists the arguments)" ;;
+    esac
     exit 3
 }
 
@@ -45,6 +49,14 @@ allowed() {
     refused=$("$WORK/allowed.$$" "$@") || refused=${refused:-what it asks for}
     rm -f "$WORK/allowed.$$"
     [ -z "$refused" ] || die "this needs $refused"
+}
+
+# writable FILE [NAME]: ends the script if FILE can't be written. Messages call it NAME.
+writable() {
+    local folder shown=${2-$1}
+    folder=$(dirname "$1")
+    [ -d "$folder" ] || die "$shown can't be written: there is no folder $folder"
+    { : >>"$1"; } 2>/dev/null || die "$shown can't be written"
 }
 
 # compare_sums FILE "PACKAGE VERSION" FOLDER: prints which C files in FOLDER differ from the checksums in FILE. FILE's

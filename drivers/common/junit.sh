@@ -13,10 +13,10 @@ JOB=     # its process group
 # junit_begin FILE: starts to record runs. A file of an earlier call is removed, so that nobody takes it for this one's.
 # FILE appears when it is complete. A link or a device, such as /dev/stdout, is written as it is.
 junit_begin() {
-    JUNIT=$1
     PART=$1
     { [ -e "$1" ] && [ ! -f "$1" ]; } || [ -L "$1" ] || PART=$1.part
-    : 2>/dev/null >>"$PART" || die "$JUNIT can't be written"
+    writable "$PART" "$1"
+    JUNIT=$1
     [ "$PART" = "$JUNIT" ] || rm -f "$JUNIT" "$PART"
     RECORDS=$(mktemp -d)
     trap 'interrupted 130' INT

@@ -27,6 +27,11 @@ uncompiled() {
     exit 2
 }
 
+# for_bisect STATUS: prints the script's status, translated for `git bisect run` with --bisect: 128 ends the bisection.
+for_bisect() {
+    if [ -n "$BISECT" ] && [ "$1" -ge 2 ] && [ "$1" != 125 ]; then echo 128; else echo "$1"; fi
+}
+
 # driver_in TREE: prints the driver's folder, relative to the tree; nothing if there is none.
 driver_in() {
     local layout
@@ -243,12 +248,12 @@ compile() {
     mkdir -p "$2"
     forget_changed "$2"
     words=(make -s -j "${JOBS:-$(nproc)}" -f "$1" "${words[@]}" EXPLORER="${LIBRARY%.a}_explore.a")
-    tell_work "$2" "${words[@]}" "${@:3}"
+    tell_work "$2" "${words[@]}" theirs "${@:3}"
     made "$2" "${words[@]}" theirs || not_compiled "$2/messages"
     made "$2" "${words[@]}" "${@:3}" || not_linked "$2/messages"
 }
 
-# tell_work OUT MAKE..: prints how many files will be compiled, if there are any.
+# tell_work OUT MAKE..: prints how many files will be compiled, if there are any. OUT/objects lists them in order.
 tell_work() {
     # (make -n would count every file of the driver again, because it assumes that the file of flags changes)
     "${@:2}" -n -o "$1/flags" 2>/dev/null | sed -n 's/.* -c -o \([^ ]*\).*/\1/p' >"$1/objects" || true

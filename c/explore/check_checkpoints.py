@@ -11,7 +11,9 @@ from pathlib import Path
 from explore.check import C, HERE, Kit, Wrong, corpus, modes_of, must_print, ran
 
 # Sources with modes, and the modes that end the process.
-SOURCES = {"pthreads": ("overflow", "small_stack"), "races": (), "points": (), "freed": (), "named": (), "continued": ()}
+SOURCES = {
+    "pthreads": ("overflow", "small_stack"), "races": (), "points": (), "freed": (), "named": (), "continued": (),
+}  # fmt: skip
 # Modes in which no schedule continues from a checkpoint, because a call changes what isn't known.
 LEAVING = ("flushes",)
 # Schedules are compared up to this number for each mode.
@@ -90,8 +92,8 @@ def check_variables() -> str:
         count += 1
         if (found[1], found[2]) not in known:
             raise Wrong(
-                f"{found[1]}.c has a new variable, {found[2]}: if schedules change it, add it to a checkpoint, and list "
-                f"it in {Path(__file__).name}"
+                f"{found[1]}.c has a new variable, {found[2]}: if schedules change it, add it to a checkpoint, and "
+                f"list it in {Path(__file__).name}"
             )
     return f"{count} variables"
 

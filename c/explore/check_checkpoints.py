@@ -5,15 +5,19 @@ from __future__ import annotations
 
 import os
 import re
-import subprocess
 from pathlib import Path
 
 from explore.check import C, HERE, Kit, Wrong, corpus, modes_of, must_print, ran
 
 # Sources with modes, and the modes that end the process.
-SOURCES = {
-    "pthreads": ("overflow", "small_stack"), "races": (), "points": (), "freed": (), "named": (), "continued": (),
-}  # fmt: skip
+SOURCES: dict[str, tuple[str, ...]] = {
+    "pthreads": ("overflow", "small_stack"),
+    "races": (),
+    "points": (),
+    "freed": (),
+    "named": (),
+    "continued": (),
+}
 # Modes in which no schedule continues from a checkpoint, because a call changes what isn't known.
 LEAVING = ("flushes",)
 # Schedules are compared up to this number for each mode.

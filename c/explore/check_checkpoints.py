@@ -46,7 +46,7 @@ SAVED = {
 OTHERS = {
     "access": "nicxi_gives_up",
     "actors": "first names nicxi_few_queues",
-    "checkpoint": "all nicxi_checkpoint_at nicxi_checkpoints_apart undo",
+    "checkpoint": "all nicxi_checkpoint_at nicxi_checkpoints_apart nicxi_has_checkpoints undo",
     "coverage": "names room",
     "demangle": "escapes",
     "device": "is_copied kept",

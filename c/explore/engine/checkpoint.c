@@ -47,6 +47,7 @@ struct change {
 };
 
 uint32_t nicxi_checkpoint_at = NEVER;
+bool nicxi_has_checkpoints;
 
 /* --- the parts of the state --- */
 
@@ -132,11 +133,9 @@ static void all_parts(struct checkpoint *it)
 
 /* --- large tables --- */
 
-void nicxi_undo_later(void *place, size_t size)
+void nicxi_note_change(void *place, size_t size)
 {
     struct change change = {place, size};
-    if (!all.count)
-        return;
     if (undo.used > MOST_UNDO || !has_room(&undo.bytes, &undo.room, undo.used + size + sizeof change)) {
         nicxi_checkpoints_drop();
         return;
@@ -167,6 +166,7 @@ static void drop_last(void)
 void nicxi_checkpoints_drop(void)
 {
     all.count = 0;
+    nicxi_has_checkpoints = false;
     all.bytes = undo.used = 0;
     nicxi_checkpoint_at = NEVER;
 }
@@ -253,6 +253,7 @@ static void take(void)
     if (it->is_incomplete)
         return;
     all.count++;
+    nicxi_has_checkpoints = true;
     all.bytes += it->used;
     choose_next();
 }

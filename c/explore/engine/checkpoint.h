@@ -38,7 +38,13 @@ void nicxi_checkpoint_take(void);
 void nicxi_part(struct checkpoint *it, void *place, size_t size);
 
 /* For large tables with few changes: called before memory changes, which is restored to what it is now. */
-void nicxi_undo_later(void *place, size_t size);
+extern bool nicxi_has_checkpoints;
+void nicxi_note_change(void *place, size_t size);
+static inline void nicxi_undo_later(void *place, size_t size)
+{
+    if (nicxi_has_checkpoints)
+        nicxi_note_change(place, size);
+}
 /* Drops all checkpoints: such a table moves. */
 void nicxi_checkpoints_drop(void);
 

@@ -143,6 +143,8 @@ def alone(place: Place, card: Card) -> list[float]:
     has(text, "guest", "3 packets received")
     if card.name == "82599":
         none_wrong(text, card)
+    counts = ", ".join(f"{it.count:,}" for it in arrived(text))
+    print(f"{card.name}: of {FRAMES:,} frames arrived {counts}", file=sys.stderr, flush=True)
     return [guest.when("guest: carrier at"), *figures_of(text, guest)]
 
 
@@ -154,18 +156,30 @@ def none_wrong(text: str, card: Card) -> None:
             raise Wrong(f"{card.name}: frames arrived twice or changed:\n" + "\n".join(text.splitlines()[-20:]))
 
 
-def rates_in(text: str, begin: str) -> list[float]:
-    """Returns the frames per second from each line with this beginning."""
-    found = re.findall(rf"^{begin}(\d+) of {FRAMES}\b.* in ([\d.]+) s", text, re.MULTILINE)
-    return [int(came) / max(1e-6, float(time)) for came, time in found]
+@dataclass
+class Arrived:
+    """How many frames arrived, and the seconds from the first to the last."""
+
+    count: int
+    seconds: float
+
+
+def arrived(text: str) -> list[Arrived]:
+    """Returns what arrived in the order of the figures: out, in, and both again with longer frames."""
+    ways = []
+    for begin in ("control: ", "frames: received "):
+        found = re.findall(rf"^{begin}(\d+) of {FRAMES}\b.* in ([\d.]+) s", text, re.MULTILINE)
+        ways.append([Arrived(int(count), float(seconds)) for count, seconds in found])
+    if [len(it) for it in ways] != [2, 2]:
+        raise Wrong("a count of frames is missing; the last lines are:\n" + "\n".join(text.splitlines()[-20:]))
+    return [it for pair in zip(*ways) for it in pair]
 
 
 def figures_of(text: str, guest: Guest) -> list[float]:
     loaded, carrier = seconds_in(text, r"^guest: loads at ([\d.]+)"), seconds_in(text, r"^guest: carrier at ([\d.]+)")
-    outs, ins = [rates_in(text, begin) for begin in ("control: ", "frames: received ")]
     reads = READS / seconds_in(text, r"^registers: \d+ reads in ([\d.]+) s")
     writes = WRITES / seconds_in(text, r"^registers: \d+ writes in ([\d.]+) s")
-    rates = [it for pair in zip(outs, ins) for it in pair]
+    rates = [it.count / max(1e-6, it.seconds) for it in arrived(text)]
     return [carrier - loaded, guest.when("bytes from 10.0.0.1"), reads, writes, *rates]
 
 
@@ -201,16 +215,18 @@ def shown(value: float) -> str:
     return f"{value:,.0f}" if value >= 100 else f"{value:.1f}" if value >= 10 else f"{value:.2f}"
 
 
-def machine_name() -> str:
+def machine_name(load: float) -> str:
+    """Returns the processors, and the load average before the run and now."""
     text = Path("/proc/cpuinfo").read_text()
     model = re.search(r"^model name\s*: (.*)$", text, re.MULTILINE)
-    load = os.getloadavg()[0]
-    return f"{os.cpu_count()} processors, {model[1] if model else platform.machine()}, load {load:.1f} at the end"
+    loads = f"load {load:.1f} before and {os.getloadavg()[0]:.1f} at the end"
+    return f"{os.cpu_count()} processors, {model[1] if model else platform.machine()}, {loads}"
 
 
 def main(words: list[str]) -> int:
     place = Place(Path(words[0]), Path(words[1]), Path(words[2]))
     begin(place)
+    load = os.getloadavg()[0]
     best: dict[str, list[float]] = {}
     try:
         for turn in range(int(words[3])):
@@ -226,7 +242,7 @@ def main(words: list[str]) -> int:
         print(f"WRONG: {fault}\n  (logs: {place.folder})")
         place.is_kept = True
         return 1
-    print(row(f"{machine_name()}; best of {words[3]}", [it.name for it in CARDS]))
+    print(row(f"{machine_name(load)}; best of {words[3]}", [it.name for it in CARDS]))
     print(row("---", ["---:"] * len(CARDS)))
     for number, figure in enumerate(FIGURES):
         print(row(f"{figure.name}, {figure.unit}", [shown(best[it.name][number]) for it in CARDS]))

@@ -109,6 +109,7 @@ bool server_open(struct server *it)
         log_line(LOG_SERVER, "can't create the socket %s: %s", it->options.control, error);
         return false;
     }
+    wire_gather(&it->wire);
     traffic_begin(&it->traffic, it->options.card.mac);
     card_send_to(&it->card, from_card, it);
     return open_functions(it);
@@ -290,6 +291,7 @@ void server_run(struct server *it)
         control_serve(&it->control, events.control, it);
         traffic_prepare(&it->traffic, BUDGET_EXPECTED);
         is_late = pass_frames(it);
+        wire_flush(&it->wire);
         is_late |= follow_wire(it);
         log_tick();
     }

@@ -128,7 +128,7 @@ static void flush_datagrams(struct wire *it)
     }
 }
 
-static void flush(struct wire *it)
+void wire_flush(struct wire *it)
 {
     if (it->file < 0)
         return;
@@ -155,9 +155,9 @@ static void send_out(struct wire *it, const uint8_t *frame, size_t length)
         it->counts.lost_nobody++;
         return;
     }
-    bool is_first = buffer_waiting(&it->out) == 0;
-    if (keep(it, &it->out, WIRE_KEPT, frame, length) && is_first)
-        flush(it);
+    size_t before = buffer_waiting(&it->out), most = it->gathers ? WIRE_GATHERED : 1;
+    if (keep(it, &it->out, WIRE_KEPT, frame, length) && before < most && buffer_waiting(&it->out) >= most)
+        wire_flush(it);
 }
 
 static void capture(struct wire *it, enum capture_direction direction, const uint8_t *frame, size_t length)
@@ -170,6 +170,11 @@ static void capture(struct wire *it, enum capture_direction direction, const uin
     log_line(LOG_WIRE, "can't write %s, so the capture ends here: %s", it->options.capture,
              strerror(it->capture.error));
     output_end(&it->capture, 0);
+}
+
+void wire_gather(struct wire *it)
+{
+    it->gathers = true;
 }
 
 /* Keeps a reply to a frame from this sender, or the frame's copy from the hairpin. Returns whether it was kept. */
@@ -375,7 +380,7 @@ void wire_serve(struct wire *it, const struct pollfd *polls)
         accept_one(it);
         return;
     }
-    flush(it);
+    wire_flush(it);
     if (it->file >= 0 && it->options.kind != WIRE_DGRAM && polls[0].revents & (POLLIN | POLLHUP | POLLERR))
         read_stream(it);
 }

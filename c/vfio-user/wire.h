@@ -18,6 +18,7 @@
 #define WIRE_FRAME_MOST 65536u  /* bytes: the card sends and accepts no longer frame */
 #define WIRE_LENGTH_MOST 69632u /* the longest frame that QEMU sends; a longer one isn't valid */
 #define WIRE_KEPT (16u << 20)
+#define WIRE_GATHERED (64u << 10)   /* bytes that wait for wire_flush */
 #define WIRE_COMING_BACK (1u << 20) /* bytes of replies and hairpins kept for each sender */
 #define WIRE_SENDERS BUDGET_PAYERS  /* senders of frames: clients by their sockets, and the other payers */
 #define WIRE_POLLS 2
@@ -47,6 +48,7 @@ struct wire {
     int file, listener; /* -1: none */
     bool had_end;       /* a stream's other end was connected before */
     bool is_cut;        /* connections are refused, because the card's link is down */
+    bool gathers;
     struct connector connector;
     struct buffer out;                 /* for the other end; stream: bytes; dgram: frames after their lengths */
     struct buffer in;                  /* bytes received from a stream */
@@ -72,6 +74,11 @@ bool wire_is_gone(const struct wire *it);
 
 /* Sends a frame from the card. `sender` is the owner of its ring. */
 void wire_send(struct wire *it, unsigned int sender, const uint8_t *frame, size_t length);
+/* After wire_gather, frames for the other end wait for wire_flush, or until WIRE_GATHERED bytes are waiting. One system
+   call then sends all of them to a stream. */
+void wire_gather(struct wire *it);
+/* Sends the waiting frames as far as the other end accepts them. */
+void wire_flush(struct wire *it);
 /* Stores the next frame for the card, padded to 60 bytes, in it->frame. Returns the frame's length; 0 if none is
    waiting. With `plays`, frames from the played file count too. Each sender's replies and hairpins take turns with the
    frames from the other end, so none starves the others. */

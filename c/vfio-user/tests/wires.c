@@ -198,6 +198,37 @@ static void a_full_end(void)
     wire_close(&wire);
 }
 
+/* Checks that gathered frames wait for wire_flush, or until enough bytes are waiting, and arrive in order. */
+static void gathers(void)
+{
+    const struct wire_options listens = {.kind = WIRE_LISTEN, .path = first_path};
+    struct sockaddr_un name = name_of(first_path);
+    static uint8_t frame[16000], got[4 + 16000];
+    CHECK(wire_open(&wire, &listens));
+    wire_gather(&wire);
+    int peer = socket(AF_UNIX, SOCK_STREAM, 0);
+    CHECK(connect(peer, (const struct sockaddr *)&name, sizeof name) == 0);
+    serve(true);
+    for (unsigned int i = 0; i < 8; i++) {
+        make_frame(frame, sizeof frame, i);
+        wire_send(&wire, 0, frame, sizeof frame);
+        bool is_out = recv(peer, got, 1, MSG_DONTWAIT | MSG_PEEK) == 1;
+        CHECK(is_out == ((i + 1) * sizeof got >= WIRE_GATHERED));
+    }
+    wire_flush(&wire);
+    for (unsigned int i = 0; i < 8; i++) {
+        take(peer, got, sizeof got);
+        make_frame(frame, sizeof frame, i);
+        CHECK(memcmp(got + 4, frame, sizeof frame) == 0);
+    }
+    wire_send(&wire, 0, frame, 60);
+    CHECK(recv(peer, got, 1, MSG_DONTWAIT) < 0 && errno == EAGAIN);
+    wire_flush(&wire);
+    take(peer, got, 64);
+    close(peer);
+    wire_close(&wire);
+}
+
 /* ---- datagrams ---- */
 
 /* Waits until the wire's socket is connected to the other end. */
@@ -366,6 +397,7 @@ int main(int count, char **words)
     snprintf(file_path, sizeof file_path, "%s/capture", words[1]);
     streams();
     a_full_end();
+    gathers();
     datagrams();
     turns();
     captures();

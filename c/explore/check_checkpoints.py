@@ -17,6 +17,7 @@ SOURCES: dict[str, tuple[str, ...]] = {
     "freed": (),
     "named": (),
     "continued": (),
+    "fenced": (),
 }
 # Modes in which no schedule continues from a checkpoint, because a call changes what isn't known.
 LEAVING = ("flushes",)

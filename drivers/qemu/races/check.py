@@ -88,6 +88,9 @@ def verdicts() -> None:
 def checks() -> None:
     assert not list(checked(GOOD, False)) and not list(checked(GOOD, True))
     assert not list(checked(["control: 299 of 300, twice 0, wrong 0", *GOOD], False))
+    printed = "[   73.798958] hrtimer: interrupt took 15450440 ns"  # on the same line, as the kernel may print it
+    assert not list(checked([it + printed for it in GOOD], False))
+    assert kinds(list(checked([it.replace("wrong 0", "wrong 1") + printed for it in GOOD], False))) == ["frames"] * 2
     for bad, is_function, kind in (
         (GOOD[1:], False, "no link"), (GOOD[:1] + GOOD[2:], False, "no answer"), (GOOD[:2] + GOOD[3:], False, "frames"),
         ([it.replace("wrong 0", "wrong 1") for it in GOOD], False, "frames"),

@@ -69,6 +69,8 @@ UNRUN = {126: "a file can't be executed", 127: "a command wasn't found"}
 UNPARSED, SYNTAX = 2, re.compile(r": (line \d+: )?syntax error")  # status and message of busybox's sh
 MORE_MEMORY = "; give the guest more with --memory"
 RIP = re.compile(r"RIP: \S*?:?([A-Za-z_]\w*)\+0x")
+# A message of the kernel that follows the guest's text on the same line.
+JOINED = re.compile(r"(?<=.)\[ *\d+\.\d{6}\] .*$", re.MULTILINE)
 WARNED = re.compile(r"WARNING: CPU.* at (\S+)|WARNING: (\S+) at (\S+)")
 COUNTED = {
     "reset": r"writes lost in resets (\d+)",
@@ -131,7 +133,7 @@ def scripted(lines: Sequence[str], limit: int, name: str) -> Iterator[Finding]:
 
 def checked(lines: Sequence[str], is_function: bool) -> Iterator[Finding]:
     """Yields findings from the lines of the guest and the server about the final check."""
-    text = "\n".join(lines)
+    text = JOINED.sub("", "\n".join(lines))
     if not re.search(r"^@search carrier 1$", text, re.MULTILINE):
         yield Finding("no link", KINDS["no link"])
     elif not re.search(r"^@search answered 1$", text, re.MULTILINE):

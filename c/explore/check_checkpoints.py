@@ -65,7 +65,7 @@ OTHERS = {
     "overflow": "before reported room",
     "page": "lines",
     "places": "count epoch nicxi_ask_for_begin nicxi_ask_for_lines nicxi_ask_for_wait seen",
-    "process": "nicxi_for_threads seconds_given seconds_left seen watched",
+    "process": "nicxi_for_threads odd_ticks seconds_given seconds_left seen ticked_at watched",
     "races": "is_open late past races",
     "replay": "it",
     "run": "maker mark nicxi_ask_for_memory nicxi_asked_points nicxi_form nicxi_races",

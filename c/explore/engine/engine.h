@@ -194,6 +194,8 @@ typedef void nicxi_listener(void *argument, uint16_t actor, const struct step *s
      nicxi_back restores the device to its state after bring-up when a schedule starts.
    - One schedule. `reset` in run.c initializes these parts before any of the driver's code runs. A part that it missed
      would make a schedule depend on earlier ones, and a failure's file would no longer reproduce it.
+   - While a schedule's threads run. Checkpoints save these parts, as ranges of fields (`engine_part` in checkpoint.c).
+     A field that a step changes must be in one of them.
 
    A search runs schedules in child processes, and their writes here are lost when they exit. Only `schedule`, `points`,
    `notes` and `coverage` point into memory shared with the search, which reads it after a crash. */

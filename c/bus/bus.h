@@ -207,6 +207,9 @@ bool bus_message(struct bus *it, unsigned int function);
    and EIMS. */
 bool bus_line(const struct bus *it);
 
+/* Prints a fault on standard error, as a bus without the callback `fault` does. */
+void bus_print_fault(bool is_transmit, const nic_outcome *outcome);
+
 /* ---- answers ---- */
 
 /* Returns the set of answers in use, and the bit of the answer with this name (as after --without), 0 if there is

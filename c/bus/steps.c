@@ -26,7 +26,7 @@ void bus_problem(struct bus *it, const char *format, ...)
 }
 
 /* Prints a fault. Only `not lent` has an address. */
-static void print_fault(bool is_transmit, const nic_outcome *outcome)
+void bus_print_fault(bool is_transmit, const nic_outcome *outcome)
 {
     char more[96] = "";
     if (outcome->why == NIC_FAULT_NOT_LENT)
@@ -48,7 +48,7 @@ static void fault(struct bus *it, bool is_transmit, const nic_outcome *reported)
     if (calls->fault)
         calls->fault(calls->of, is_transmit, &outcome);
     else
-        print_fault(is_transmit, &outcome);
+        bus_print_fault(is_transmit, &outcome);
 }
 
 static void collect(struct bus *it, uint16_t queue)

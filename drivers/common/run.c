@@ -38,17 +38,11 @@ static void print_descriptor(bool is_transmit, const nic_outcome *outcome)
                 "all 0: the tail moved past it before it was written, or the ring has another base or length\n");
 }
 
-/* Prints a fault as the bus does, and the descriptor. */
+/* Prints a fault, and its descriptor. */
 static void on_fault(void *of, bool is_transmit, const nic_outcome *outcome)
 {
     (void)of;
-    char more[96] = "";
-    if (outcome->why == NIC_FAULT_NOT_LENT)
-        snprintf(more, sizeof more, ", bus address 0x%" PRIx64, outcome->bus);
-    else if (outcome->why == NIC_FAULT_TOO_LONG)
-        snprintf(more, sizeof more, ": the bytes since the last descriptor with EOP exceed the frame limit");
-    fprintf(stderr, "bus: a fault in %s, queue %u slot %u: %s%s\n", is_transmit ? "sending" : "receiving",
-            outcome->queue, outcome->slot, nic_fault_name(outcome->why), more);
+    bus_print_fault(is_transmit, outcome);
     print_descriptor(is_transmit, outcome);
 }
 

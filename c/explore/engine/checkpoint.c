@@ -9,7 +9,7 @@
 
 /* Checkpoints are this many points apart, and further if they are large: taking one and continuing from it costs about
    as much as running that many points. Memory for them is limited. */
-enum { MOST = 64, APART = 24, BYTES_OF_POINT = 4096, PART = 1024 };
+enum { MOST = 64, APART = 24, BYTES_OF_POINT = 4096 };
 uint32_t nicxi_checkpoints_apart = APART;
 #define MOST_BYTES ((size_t)32 << 20)
 #define MOST_UNDO ((size_t)16 << 20)
@@ -63,20 +63,10 @@ static bool has_room(char **bytes, size_t *room, size_t wanted)
     return true;
 }
 
-/* Most of a large part doesn't change, and comparing takes less time than writing. */
-static void restore(char *place, const char *from, size_t size)
-{
-    for (size_t at = 0; at < size; at += PART) {
-        size_t length = size - at < PART ? size - at : PART;
-        if (length < PART || memcmp(place + at, from + at, length) != 0)
-            memcpy(place + at, from + at, length);
-    }
-}
-
 void nicxi_part(struct checkpoint *it, void *place, size_t size)
 {
     if (it->is_restoring)
-        restore(place, it->bytes + it->used, size);
+        nicxi_put_back(place, it->bytes + it->used, size);
     else if (!has_room(&it->bytes, &it->room, it->used + size))
         it->is_incomplete = true;
     else

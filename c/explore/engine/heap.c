@@ -66,15 +66,20 @@ bool nicxi_heap_keep(void)
     return true;
 }
 
-/* Most parts of the memory don't change during a schedule, and comparing a part takes less time than writing it. */
+void nicxi_put_back(void *place, const void *copy, size_t size)
+{
+    char *to = place;
+    const char *from = copy;
+    for (size_t at = 0; at < size; at += PART) {
+        size_t length = size - at < PART ? size - at : PART;
+        if (length < PART || memcmp(to + at, from + at, length) != 0)
+            memcpy(to + at, from + at, length);
+    }
+}
+
 void nicxi_heap_back(void)
 {
-    char *now = (char *)memory;
-    for (size_t at = 0; at < kept_size; at += PART) {
-        size_t length = kept_size - at < PART ? kept_size - at : PART;
-        if (memcmp(now + at, kept + at, length) != 0)
-            memcpy(now + at, kept + at, length);
-    }
+    nicxi_put_back(memory, kept, kept_size);
 }
 
 size_t nicxi_heap_size(void)

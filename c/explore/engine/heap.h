@@ -28,6 +28,9 @@ bool nicxi_heap_has(const void *piece);
 bool nicxi_heap_keep(void);
 /* Restores the saved piece. */
 void nicxi_heap_back(void);
+/* Makes memory equal to a copy. Most parts of a large memory don't change during a schedule, and comparing a part takes
+   less time than writing it. */
+void nicxi_put_back(void *place, const void *copy, size_t size);
 
 /* Return the size of the saved copy, copy the piece, and compare it with a copy byte for byte. */
 size_t nicxi_heap_size(void);
